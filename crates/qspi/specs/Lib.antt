@@ -1,0 +1,6 @@
+pub mod Choice
+pub mod Bus
+pub mod Command
+pub mod Address
+pub mod Bytes
+pub mod Frame

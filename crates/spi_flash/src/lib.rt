@@ -1,0 +1,3 @@
+// What both flash drivers share: their errors and the rule of their waits.
+pub mod error;
+pub mod wait;
