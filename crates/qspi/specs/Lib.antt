@@ -3,4 +3,5 @@ pub mod Bus
 pub mod Command
 pub mod Address
 pub mod Bytes
+pub mod Shown
 pub mod Frame

@@ -1,0 +1,5 @@
+pub mod Bytes
+pub mod WaitTable
+pub mod StatusBits
+pub mod DeviceBounds
+pub mod DatasheetAgrees

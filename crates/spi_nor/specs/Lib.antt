@@ -1,0 +1,9 @@
+pub mod Opcode
+pub mod WaitTable
+pub mod Status
+pub mod StatusBits
+pub mod Config
+pub mod DeviceBounds
+pub mod Command
+pub mod Datasheet
+pub mod DatasheetAgrees
