@@ -191,4 +191,5 @@ module _ (C : Type 0) {S A : Type 0} (next : S → Outcome → Decision S A) (ta
     reached t s Q h =
         let vs = some-along given (ask t (meaning s)) Q h in
         let r = decides (vs .0) (more t s) Q (vs .1) in
-        (r .0, record { fits = λ ls n w. r .1 .fits _ ls n w; ends = λ ls n w. r .1 .ends _ ls n w; leads = λ ls n w. r .1 .leads ls n w })
+        let l : Lent = record { scratch = []; buffer = []; given = [] } in
+        (r .0, record { fits = λ ls n w. r .1 .fits l ls n w; ends = λ ls n w. r .1 .ends l ls n w; leads = λ ls n w. r .1 .leads ls n w })
