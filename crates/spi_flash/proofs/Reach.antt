@@ -20,7 +20,7 @@ use Rattle.spi_flash.specs.Loan.{Lent, readyFor}
 use Rattle.spi_flash.specs.Prog.{Prog, ret, fail, ask}
 use Rattle.spi_flash.specs.Path.{Past, back, End, going, done, failed, Some, Fits, Answers}
 use Rattle.spi_flash.specs.Run.{Event, Entry, goesOn, fittingThen, Fitting, endedThen, HasEnded, Answer, answering, Lending}
-use Rattle.spi_flash.specs.Machine.{Decision, more, well, bad, Config, out, rest, settle, machine, tree, Simulates, Trail, decidedTrail, trail}
+use Rattle.spi_flash.specs.Machine.{Decision, more, well, bad, Config, out, rest, settle, machine, tree, Onward, Simulates, Trail, decidedTrail, trail}
 
 -- ---- the values of a path, to the call's end
 
@@ -120,22 +120,22 @@ module _ (C : Type 0) {S A : Type 0} (next : S → Outcome → Decision S A) (ta
 
   module _ (s : S) (Q : List Past → End A → Type 0) (rs : List Answer) where
     -- the transfer's value is v, and the call goes on to Q
-    abbrev Onward : Transfer → ℕ → Type 0
-    Onward t v = Decides (next s (Outcome.Value v)) (λ past end. Q (back t (Outcome.Value v) ∷ past) end) rs
+    abbrev GoesOn : Transfer → ℕ → Type 0
+    GoesOn t v = Decides (next s (Outcome.Value v)) (λ past end. Q (back t (Outcome.Value v) ∷ past) end) rs
 
     at : (t : Transfer) (stage : Stage) → Frame
     at t stage = frameAt t stage (Outcome.Value 0)
 
     -- select high, with what has come of the transfer
-    high : (t : Transfer) (u v : ℕ) → v ≡ u → Onward t v → Brings s (frameAt t Stage.High (Outcome.Value u)) Q (ok ∷ rs)
+    high : (t : Transfer) (u v : ℕ) → v ≡ u → GoesOn t v → Brings s (frameAt t Stage.High (Outcome.Value u)) Q (ok ∷ rs)
     unfolding fitsOf actionOf advancedOf ok
-    high t u v e h = overs s (frameAt t Stage.High (Outcome.Value u)) Q ok rs (Outcome.Value u) refl refl (subst (Onward t) e h)
+    high t u v e h = overs s (frameAt t Stage.High (Outcome.Value u)) Q ok rs (Outcome.Value u) refl refl (subst (GoesOn t) e h)
 
     -- the data of a read
     data-read : (t : Transfer) (n : ℕ) (sink : Sink) (v : ℕ) (h : Answers given n sink v) →
         fitsOf (actionOf (at t Stage.Payload)) Reply.Data (length (h .bytes)) ≡ true →
         advancedOf (at t Stage.Payload) Reply.Data (h .bytes) given ≡ Advanced.More (frameAt t Stage.High (Outcome.Value (valueOf sink (h .bytes) given))) →
-        Onward t v → Brings s (at t Stage.Payload) Q (got (h .bytes) ∷ ok ∷ rs)
+        GoesOn t v → Brings s (at t Stage.Payload) Q (got (h .bytes) ∷ ok ∷ rs)
     unfolding got
     data-read t n sink v h fit to d =
         goes s (at t Stage.Payload) (frameAt t Stage.High (Outcome.Value (valueOf sink (h .bytes) given))) Q (got (h .bytes)) (ok ∷ rs) fit to (high t (valueOf sink (h .bytes) given) v (sym (h .value)) d)
@@ -148,10 +148,10 @@ module _ (C : Type 0) {S A : Type 0} (next : S → Outcome → Decision S A) (ta
     onwards t from to as′ fit leads h = goes s (at t from) (at t to) Q ok as′ fit leads h
 
     -- the replies that a transfer's value stands for
-    transferred : (t : Transfer) (v : ℕ) (h : Fits given t v) → Onward t v → Brings s (firstOf t) Q (repliesTo t v h ++ rs)
+    transferred : (t : Transfer) (v : ℕ) (h : Fits given t v) → GoesOn t v → Brings s (firstOf t) Q (repliesTo t v h ++ rs)
     unfolding firstOf fitsOf actionOf advancedOf ok repliesTo at
-    transferred Transfer.Raise v h d = overs s (firstOf Transfer.Raise) Q ok rs (Outcome.Value 0) refl refl (subst (Onward Transfer.Raise) h d)
-    transferred (Transfer.Pause us) v h d = overs s (firstOf (Transfer.Pause us)) Q ok rs (Outcome.Value 0) refl refl (subst (Onward (Transfer.Pause us)) h d)
+    transferred Transfer.Raise v h d = overs s (firstOf Transfer.Raise) Q ok rs (Outcome.Value 0) refl refl (subst (GoesOn Transfer.Raise) h d)
+    transferred (Transfer.Pause us) v h d = overs s (firstOf (Transfer.Pause us)) Q ok rs (Outcome.Value 0) refl refl (subst (GoesOn (Transfer.Pause us)) h d)
     transferred (Transfer.Send c) v h d =
         onwards (Transfer.Send c) Stage.Start Stage.Command _ refl refl
         (onwards (Transfer.Send c) Stage.Command Stage.High _ refl refl
@@ -173,23 +173,23 @@ module _ (C : Type 0) {S A : Type 0} (next : S → Outcome → Decision S A) (ta
         (onwards (Transfer.QuadWrite c p) Stage.Payload Stage.High _ refl refl
         (high (Transfer.QuadWrite c p) 0 v h d))
 
-  module _ (meaning : S → ℕ → Prog A) (sim : Simulates next meaning) where
+  module _ (Valid : S → Type 0) (meaning : S → ℕ → Prog A) (sim : Simulates Valid next meaning) where
     -- the replies of a whole path
-    decides : (vs : List ℕ) (d : Decision S A) (Q : List Past → End A → Type 0) → Along given (tree meaning d) vs Q → (rs : List Answer) × Decides d Q rs
-    decides [] (well a) Q h = ([], record { fits = λ l ls n w. tt; ends = λ l ls n w. tt; leads = λ ls n w. h })
-    decides [] (bad e) Q h = ([], record { fits = λ l ls n w. tt; ends = λ l ls n w. tt; leads = λ ls n w. h })
-    decides [] (more t s) Q h = absurd h
-    decides (v ∷ vs) (well a) Q h = absurd h
-    decides (v ∷ vs) (bad e) Q h = absurd h
-    decides (v ∷ vs) (more t s) Q h =
+    decides : (vs : List ℕ) (d : Decision S A) (Q : List Past → End A → Type 0) → Onward Valid d → Along given (tree meaning d) vs Q → (rs : List Answer) × Decides d Q rs
+    decides [] (well a) Q w h = ([], record { fits = λ l ls n i. tt; ends = λ l ls n i. tt; leads = λ ls n i. h })
+    decides [] (bad e) Q w h = ([], record { fits = λ l ls n i. tt; ends = λ l ls n i. tt; leads = λ ls n i. h })
+    decides [] (more t s) Q w h = absurd h
+    decides (v ∷ vs) (well a) Q w h = absurd h
+    decides (v ∷ vs) (bad e) Q w h = absurd h
+    decides (v ∷ vs) (more t s) Q w h =
         let Q′ : List Past → End A → Type 0 = λ past end. Q (back t (Outcome.Value v) ∷ past) end in
-        let r = decides vs (next s (Outcome.Value v)) Q′ (subst (λ p. Along given p vs Q′) (sim .onValue s v) (h .1)) in
+        let r = decides vs (next s (Outcome.Value v)) Q′ (sim .keeps s v w) (subst (λ p. Along given p vs Q′) (sim .onValue s v w) (h .1)) in
         let b = transferred s Q (r .0) t v (h .0) (r .1) in
-        (repliesTo t v (h .0) ++ r .0, record { fits = λ l ls n w. b .fits ls n w; ends = λ l ls n w. b .ends ls n w; leads = λ ls n w. b .leads ls n w })
+        (repliesTo t v (h .0) ++ r .0, record { fits = λ l ls n i. b .fits ls n i; ends = λ l ls n i. b .ends ls n i; leads = λ ls n i. b .leads ls n i })
 
-    pub reached : (t : Transfer) (s : S) (Q : List Past → End A → Type 0) → Some given (ask t (meaning s)) Q → (rs : List Answer) × Brings s (firstOf t) Q rs
-    reached t s Q h =
+    pub reached : (t : Transfer) (s : S) (Q : List Past → End A → Type 0) → Valid s → Some given (ask t (meaning s)) Q → (rs : List Answer) × Brings s (firstOf t) Q rs
+    reached t s Q w h =
         let vs = some-along given (ask t (meaning s)) Q h in
-        let r = decides (vs .0) (more t s) Q (vs .1) in
+        let r = decides (vs .0) (more t s) Q w (vs .1) in
         let l : Lent = record { scratch = []; buffer = []; given = [] } in
-        (r .0, record { fits = λ ls n w. r .1 .fits l ls n w; ends = λ ls n w. r .1 .ends l ls n w; leads = λ ls n w. r .1 .leads ls n w })
+        (r .0, record { fits = λ ls n i. r .1 .fits l ls n i; ends = λ ls n i. r .1 .ends l ls n i; leads = λ ls n i. r .1 .leads ls n i })

@@ -26,7 +26,7 @@ use Rattle.spi_flash.specs.Loan.{Lent, readyFor}
 use Rattle.spi_flash.specs.Prog.{Prog, ret, fail, ask}
 use Rattle.spi_flash.specs.Path.{Past, back, End, going, done, failed, Every, spent, underway, asked, delays, actions, Bounded}
 use Rattle.spi_flash.specs.Run.{Event, reply, call, Entry, Moved, goesOn, delayGiven, delayAsked, fittingThen, Fitting, endedThen, HasEnded}
-use Rattle.spi_flash.specs.Machine.{Decision, more, well, bad, Config, out, rest, lentAs, heard, settle, moved, answered, machine, tree, Simulates, Trail, push, decidedTrail, heardTrail, trail}
+use Rattle.spi_flash.specs.Machine.{Decision, more, well, bad, Config, out, rest, lentAs, heard, settle, moved, answered, machine, tree, Onward, Simulates, Trail, push, decidedTrail, heardTrail, trail}
 
 -- ---- one reply to a frame
 
@@ -74,14 +74,14 @@ payload-quiet (Transfer.QuadRead c q m n k) s l = refl
 payload-quiet (Transfer.QuadWrite c p) s l = refl
 
 -- a stage leads on to a later one
-abbrev Onward : ℕ → Transfer → Following → Type 0
-Onward n t (Following.To Stage.Start) = ⊥
-Onward n t (Following.To Stage.Command) = remainingAt Stage.Command t < n
-Onward n t (Following.To Stage.Payload) = remainingAt Stage.Payload t < n
-Onward n t (Following.To Stage.High) = remainingAt Stage.High t < n
-Onward n t Following.Over = Unit {0}
+abbrev Later : ℕ → Transfer → Following → Type 0
+Later n t (Following.To Stage.Start) = ⊥
+Later n t (Following.To Stage.Command) = remainingAt Stage.Command t < n
+Later n t (Following.To Stage.Payload) = remainingAt Stage.Payload t < n
+Later n t (Following.To Stage.High) = remainingAt Stage.High t < n
+Later n t Following.Over = Unit {0}
 
-onward : (t : Transfer) (stage : Stage) → Onward (remainingAt stage t) t (nextStage t stage)
+onward : (t : Transfer) (stage : Stage) → Later (remainingAt stage t) t (nextStage t stage)
 onward Transfer.Raise Stage.Start = tt
 onward (Transfer.Pause us) Stage.Start = tt
 onward (Transfer.Send c) Stage.Start = lit< tt
@@ -119,7 +119,7 @@ error-onward t Stage.Payload code n h = lit< tt
 error-onward t Stage.High code n h = absurd (false≢true h)
 
 module _ (f : Frame) (P : Advanced → Type 0) (mored : (g : Frame) → Goes f g → P (Advanced.More g)) (overed : (o : Outcome) → P (Advanced.Over o)) where
-  goes-on : (x : Following) (o : Outcome) → Onward (remaining f) (f .transfer) x → P (movedOn (f .transfer) x o)
+  goes-on : (x : Following) (o : Outcome) → Later (remaining f) (f .transfer) x → P (movedOn (f .transfer) x o)
   unfolding actionOf
   goes-on (Following.To Stage.Start) o h = absurd h
   goes-on (Following.To Stage.Command) o h = mored (frameAt (f .transfer) Stage.Command o) (record { same = refl; shorter = h; quiet = command-quiet (f .transfer) })
@@ -155,32 +155,32 @@ module _ (k : Takes) (f : Frame) (r : Reply) (bytes : List ℕ) (l : Lent) (P : 
 abbrev At : {A : Type 0} → (List Past → End A → Type 0) → Trail A → Type 0
 At Q x = Q (x .past) (x .stop)
 
-module _ {S A C : Type 0} (next : S → Outcome → Decision S A) (k : Takes) (meaning : S → ℕ → Prog A) (sim : Simulates next meaning) where
-  module _ (es : List (Event C)) (ih : (s : S) (f : Frame) (R : List Past → End A → Type 0) → Every (ask (f .transfer) (meaning s)) R → At R (trail next k s f es)) where
-    decided : (d : Decision S A) (Q : List Past → End A → Type 0) → Every (tree meaning d) Q → At Q (decidedTrail d (λ t s. trail next k s (firstOf t) es))
+module _ {S A C : Type 0} (Valid : S → Type 0) (next : S → Outcome → Decision S A) (k : Takes) (meaning : S → ℕ → Prog A) (sim : Simulates Valid next meaning) where
+  module _ (es : List (Event C)) (ih : (s : S) (f : Frame) (R : List Past → End A → Type 0) → Valid s → Every (ask (f .transfer) (meaning s)) R → At R (trail next k s f es)) where
+    decided : (d : Decision S A) (Q : List Past → End A → Type 0) → Onward Valid d → Every (tree meaning d) Q → At Q (decidedTrail d (λ t s. trail next k s (firstOf t) es))
     unfolding firstOf
-    decided (more t s) Q h = ih s (firstOf t) Q h
-    decided (well a) Q h = h
-    decided (bad e) Q h = h
+    decided (more t s) Q w h = ih s (firstOf t) Q w h
+    decided (well a) Q w h = h
+    decided (bad e) Q w h = h
 
-    overed : (s : S) (t : Transfer) (o : Outcome) (Q : List Past → End A → Type 0) → Every (ask t (meaning s)) Q →
+    overed : (s : S) (t : Transfer) (o : Outcome) (Q : List Past → End A → Type 0) → Valid s → Every (ask t (meaning s)) Q →
         At Q (push (back t o) (decidedTrail (next s o) (λ t s. trail next k s (firstOf t) es)))
-    overed s t (Outcome.Value v) Q h =
+    overed s t (Outcome.Value v) Q w h =
         let Q′ : List Past → End A → Type 0 = λ past end. Q (back t (Outcome.Value v) ∷ past) end in
-        decided (next s (Outcome.Value v)) Q′ (subst (λ p. Every p Q′) (sim .onValue s v) (h .2 v))
-    overed s t (Outcome.Failed code) Q h = rw (sim .onFailure s code) (h .1 code)
+        decided (next s (Outcome.Value v)) Q′ (sim .keeps s v w) (subst (λ p. Every p Q′) (sim .onValue s v w) (h .2 v))
+    overed s t (Outcome.Failed code) Q w h = rw (sim .onFailure s code) (h .1 code)
 
   -- what holds on every path holds of the path of every run
-  pub every-trail : (s : S) (f : Frame) (Q : List Past → End A → Type 0) → Every (ask (f .transfer) (meaning s)) Q → (es : List (Event C)) →
+  pub every-trail : (s : S) (f : Frame) (Q : List Past → End A → Type 0) → Valid s → Every (ask (f .transfer) (meaning s)) Q → (es : List (Event C)) →
       Q (trail next k s f es .past) (trail next k s f es .stop)
   unfolding trail
-  every-trail s f Q h [] = h .0
-  every-trail s f Q h (call c l ∷ es) = every-trail s f Q h es
-  every-trail s f Q h (reply r bytes l ∷ es) =
+  every-trail s f Q w h [] = h .0
+  every-trail s f Q w h (call c l ∷ es) = every-trail s f Q w h es
+  every-trail s f Q w h (reply r bytes l ∷ es) =
       heard-view k f r bytes l (λ x. At Q (heardTrail next s f x (λ g. trail next k s g es) (λ t s′. trail next k s′ (firstOf t) es)))
-      (every-trail s f Q h es)
-      (λ g e. every-trail s g Q (rw (e .same) h) es)
-      (λ o. overed es (λ s′ g R i. every-trail s′ g R i es) s (f .transfer) o Q h)
+      (every-trail s f Q w h es)
+      (λ g e. every-trail s g Q w (rw (e .same) h) es)
+      (λ o. overed es (λ s′ g R v i. every-trail s′ g R v i es) s (f .transfer) o Q w h)
 
 -- ---- the delays given out
 
@@ -230,13 +230,13 @@ module _ {S A C : Type 0} (next : S → Outcome → Decision S A) (k : Takes) wh
 
 -- ---- the bound of a whole run: no list of events brings the delay asked past the program's
 
-module _ {S A C : Type 0} (next : S → Outcome → Decision S A) (k : Takes) (meaning : S → ℕ → Prog A) (sim : Simulates next meaning) where
-  pub run-bound : (t : Transfer) (s : S) {b : ℕ} → Bounded delays b (ask t (meaning s)) → (es : List (Event C)) →
+module _ {S A C : Type 0} (Valid : S → Type 0) (next : S → Outcome → Decision S A) (k : Takes) (meaning : S → ℕ → Prog A) (sim : Simulates Valid next meaning) where
+  pub run-bound : (t : Transfer) (s : S) {b : ℕ} → Valid s → Bounded delays b (ask t (meaning s)) → (es : List (Event C)) →
       delays t + delayAsked (goesOn (machine next C) (out k s (firstOf t)) es) ≤ b
   unfolding firstOf
-  run-bound t s {b} h es =
+  run-bound t s {b} w h es =
       let f = firstOf t in
-      omega (arith, trail-asks next k s f es, every-trail next k meaning sim s f (λ past end. asked delays past end ≤ b) (h .bound) es)
+      omega (arith, trail-asks next k s f es, every-trail Valid next k meaning sim s f (λ past end. asked delays past end ≤ b) w (h .bound) es)
 
 -- ---- every call ends
 
@@ -297,9 +297,9 @@ module _ {S A C : Type 0} (next : S → Outcome → Decision S A) (k : Takes) wh
       h
 
   -- on every list of fitting replies as long as the program's bound on its actions, the call has ended
-  pub run-ends : (meaning : S → ℕ → Prog A) → Simulates next meaning → (t : Transfer) (s : S) {b : ℕ} → Bounded actions b (ask t (meaning s)) → (es : List (Event C)) →
+  pub run-ends : (Valid : S → Type 0) (meaning : S → ℕ → Prog A) → Simulates Valid next meaning → (t : Transfer) (s : S) {b : ℕ} → Valid s → Bounded actions b (ask t (meaning s)) → (es : List (Event C)) →
       Fitting (goesOn (machine next C) (out k s (firstOf t)) es) → b ≤ length es → HasEnded (goesOn (machine next C) (out k s (firstOf t)) es)
   unfolding firstOf
-  run-ends meaning sim t s {b} h es fit long =
+  run-ends Valid meaning sim t s {b} w h es fit long =
       let f = firstOf t in
-      ⊎-elim (λ e. e) (λ n. absurd (omega (arith, every-trail next k meaning sim s f (λ past end. asked actions past end ≤ b) (h .bound) es))) (counted s f es fit)
+      ⊎-elim (λ e. e) (λ n. absurd (omega (arith, every-trail Valid next k meaning sim s f (λ past end. asked actions past end ≤ b) w (h .bound) es))) (counted s f es fit)

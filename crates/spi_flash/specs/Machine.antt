@@ -5,7 +5,7 @@ use mathlib.Core.Path.{_≡_}
 use mathlib.Core.List.{List, [], _∷_}
 use Rattle.qspi.specs.Choice.{pick}
 use Rattle.qspi.specs.Shown.{shownOf}
-use Rattle.qspi.specs.Frame.{AfterExchange, firstOf, actionOf, givenScratch, exchangeOf}
+use Rattle.qspi.specs.Frame.{AfterExchange, firstOf, actionOf, exchangeOf}
 use Rattle.qspi.specs.declared.bus.Reply.{Reply}
 use Rattle.qspi.specs.declared.transfer.Transfer.{Transfer}
 use Rattle.qspi.specs.declared.frame.Frame.{Frame}
@@ -42,14 +42,9 @@ heard k f r bytes l = pick (readyFor k l) (exchangeOf f r bytes (l .scratch) (l 
 abbrev pub refusing : {F A : Type 0} → FlashError → F → Lent → Moved F A
 refusing e f l = record { given = Run.refused e; flash = f; left = l }
 
--- gives out the first action of the next transfer, or ends the call
+-- gives out the first action of the next transfer, or ends the call; a command is put into the scratch only later
 abbrev pub settle : {S A : Type 0} → Takes → Decision S A → Lent → Moved (Config S) A
-settle k (more t s) l =
-    record {
-      given = act (shownOf (actionOf (firstOf t)) (givenScratch (firstOf t) (l .scratch)) (l .given));
-      flash = out k s (firstOf t);
-      left = lentAs (givenScratch (firstOf t) (l .scratch)) (l .buffer) l;
-    }
+settle k (more t s) l = record { given = act (shownOf (actionOf (firstOf t)) (l .scratch) (l .given)); flash = out k s (firstOf t); left = l }
 settle k (well a) l = record { given = Run.ended a; flash = rest; left = l }
 settle k (bad e) l = record { given = Run.failed e; flash = rest; left = l }
 
@@ -82,9 +77,17 @@ tree meaning (more t s) = ask t (meaning s)
 tree meaning (well a) = ret a
 tree meaning (bad e) = fail e
 
-pub record Simulates {S A : Type 0} (next : S → Outcome → Decision S A) (meaning : S → ℕ → Prog A) : Type 0 where
-  pub onValue : (s : S) (v : ℕ) → meaning s v ≡ tree meaning (next s (Outcome.Value v))
+-- what holds of the state that a decision goes on with
+abbrev pub Onward : {S A : Type 0} → (S → Type 0) → Decision S A → Type 0
+Onward Valid (more t s) = Valid s
+Onward Valid (well a) = Unit {0}
+Onward Valid (bad e) = Unit {0}
+
+-- on the states that a call can come to, the machine does what is left of the program
+pub record Simulates {S A : Type 0} (Valid : S → Type 0) (next : S → Outcome → Decision S A) (meaning : S → ℕ → Prog A) : Type 0 where
+  pub onValue : (s : S) (v : ℕ) → Valid s → meaning s v ≡ tree meaning (next s (Outcome.Value v))
   pub onFailure : (s : S) (code : ℕ) → next s (Outcome.Failed code) ≡ bad (FlashError.Spi code)
+  pub keeps : (s : S) (v : ℕ) → Valid s → Onward Valid (next s (Outcome.Value v))
 
 -- ---- the path that a run takes through it
 

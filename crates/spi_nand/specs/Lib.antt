@@ -1,0 +1,7 @@
+pub mod Opcode
+pub mod Status
+pub mod Config
+pub mod Geometries
+pub mod Command
+pub mod Datasheet
+pub mod DatasheetAgrees
