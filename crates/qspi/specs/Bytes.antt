@@ -36,6 +36,10 @@ abbrev pub deliveredOf : List ℕ → ℕ → List ℕ → List ℕ
 deliveredOf buffer at s =
     pick (leb (length s) (length buffer)) (pick (leb at (length buffer - length s)) (paste buffer at s (length s)) buffer) buffer
 
+-- where a delivery ends
+abbrev pub endOf : ℕ → ℕ → ℕ → ℕ → ℕ
+endOf at n size before = pick (leb n size) (pick (leb at (size - n)) (at + n) before) before
+
 -- document 01: "the FF filler, as many bytes as the chunk has, starts at place 5 and ends at 260 at most"
 abbrev pub fillerLength : ℕ → ℕ
 fillerLength n = pick (leb n 256) n 256

@@ -6,7 +6,7 @@ use lib.ListN.{length, drop}
 use Rattle.qspi.specs.Choice.{pick}
 use Rattle.qspi.specs.Bus.{fitsOf}
 use Rattle.qspi.specs.Command.{commandBytes, withCommand}
-use Rattle.qspi.specs.Bytes.{numberOf, beginsOf, deliveredOf, fillerLength, withFiller, withMarker}
+use Rattle.qspi.specs.Bytes.{numberOf, beginsOf, deliveredOf, endOf, fillerLength, withFiller, withMarker}
 use Rattle.qspi.specs.declared.bus.Action.{Action}
 use Rattle.qspi.specs.declared.bus.Part.{Part}
 use Rattle.qspi.specs.declared.bus.Reply.{Reply}
@@ -185,6 +185,20 @@ takenAt (Reply.Error code) sink bytes buffer = buffer
 -- the caller's buffer; document 01: "register, id, marker and read-back replies change no lent byte"
 unfoldable pub takenIn : Frame → Reply → List ℕ → List ℕ → List ℕ
 takenIn f reply bytes buffer = takenAt reply (sinkOf (f .transfer)) bytes buffer
+
+abbrev pub deliveredInto : Sink → ℕ → ℕ → ℕ → ℕ
+deliveredInto Sink.Number n size before = before
+deliveredInto (Sink.Buffer at) n size before = endOf at n size before
+deliveredInto (Sink.Compare from) n size before = before
+
+abbrev pub deliveredAt : Reply → Sink → ℕ → ℕ → ℕ → ℕ
+deliveredAt Reply.Done sink n size before = before
+deliveredAt Reply.Data sink n size before = deliveredInto sink n size before
+deliveredAt (Reply.Error code) sink n size before = before
+
+-- how many bytes of the buffer are delivered, of a reply of n bytes and a buffer of that size
+unfoldable pub deliveredBy : Frame → Reply → ℕ → ℕ → ℕ → ℕ
+deliveredBy f reply n size before = deliveredAt reply (sinkOf (f .transfer)) n size before
 
 -- ---- one reply to the action that is out
 

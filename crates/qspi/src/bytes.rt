@@ -4,7 +4,7 @@ ghost use mathlib.Core.Path.{_≡_};
 ghost use Prim.Native.Nat.{_+_, _≤_};
 ghost use lib.ListN.{length, take, drop, replicate};
 ghost use lib.Seq.{paste};
-ghost use Rattle.qspi.specs.Bytes.{partOf, sentOf, numberOf, beginsOf, deliveredOf, fillerLength, withFiller, withMarker};
+ghost use Rattle.qspi.specs.Bytes.{partOf, sentOf, numberOf, beginsOf, deliveredOf, endOf, fillerLength, withFiller, withMarker};
 use crate::command::SCRATCH_LEN;
 
 // A bad-block mark: where its filler starts in the scratch, and the most that a chunk has of it.
@@ -159,4 +159,17 @@ pub fn put_marker(scratch: &mut [u8])
     if SCRATCH_LEN <= scratch.len() {
         scratch[MARKER_AT] = MARKER;
     }
+}
+
+// Where a delivery of len bytes at a place ends. One that does not fit leaves what was delivered before.
+pub fn end_of(at: usize, len: usize, buffer_len: usize, before: usize) -> usize
+    ensures { λ r. ⌜ r ≡ endOf at len «buffer_len» before ⌝ }
+{
+    if len <= buffer_len {
+        if at <= buffer_len - len {
+            return at + len;
+        }
+        return before;
+    }
+    before
 }

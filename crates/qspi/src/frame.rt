@@ -12,7 +12,7 @@ use crate::transfer::Transfer;
 ghost use mathlib.Core.Path.{_≡_};
 ghost use lib.ListN.{length};
 ghost use Rattle.qspi.specs.Command.{commandBytes};
-ghost use Rattle.qspi.specs.Frame.{firstOf, payloadPart, withPayload, startAction, commandAction, payloadAction, actionOf, withCommandOf, withPayloadOf, givenScratch, afterStart, afterCommand, nextStage, sinkOf, valueOf, movedOn, advancedOf, takenIn, exchangedTo, exchangeOf};
+ghost use Rattle.qspi.specs.Frame.{firstOf, payloadPart, withPayload, startAction, commandAction, payloadAction, actionOf, withCommandOf, withPayloadOf, givenScratch, afterStart, afterCommand, nextStage, sinkOf, valueOf, movedOn, advancedOf, takenIn, deliveredBy, exchangedTo, exchangeOf};
 
 // Which action of the transfer is out.
 pub enum Stage {
@@ -476,5 +476,27 @@ pub fn exchange(
         }
     } else {
         Exchanged::Misfit
+    }
+}
+
+// How many bytes of the caller's buffer are delivered after a reply that fits, where `before` were.
+pub fn delivered_by(
+    frame: Frame,
+    reply: Reply,
+    len: usize,
+    buffer_len: usize,
+    before: usize,
+) -> usize
+    ensures { λ r. ⌜ r ≡ deliveredBy frame reply len «buffer_len» before ⌝ }
+{
+    let transfer = frame.transfer;
+    match reply {
+        Reply::Done => before,
+        Reply::Data => match sink_of(transfer) {
+            Sink::Number => before,
+            Sink::Buffer(at) => bytes::end_of(at, len, buffer_len, before),
+            Sink::Compare(_) => before,
+        },
+        Reply::Error(_) => before,
     }
 }

@@ -1,3 +1,6 @@
+pub mod Cases
+pub mod Table
+pub mod Bits
 pub mod Laws
 pub mod Giving
 pub mod Waiting

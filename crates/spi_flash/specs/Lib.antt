@@ -1,4 +1,5 @@
 pub mod Error
+pub mod Bits
 pub mod Loan
 pub mod Wait
 pub mod Prog

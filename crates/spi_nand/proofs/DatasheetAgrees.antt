@@ -1,7 +1,7 @@
 -- The driver's definitions against the datasheets'.
 use Prim.Native.Nat.{ℕ, zero, suc, _+_, _*_, _/_, _%_, _^_, _≤_, _<_}
 use mathlib.Core.Path.{_≡_, refl, sym, ap, _∙_}
-use mathlib.Core.Bool.{Bool, _&&_}
+use mathlib.Core.Bool.{_&&_}
 use mathlib.Core.List.{List, [], _∷_, _++_}
 use native.Mathlib.Omega.{arith}
 use native.Mathlib.Nat.{mod-eq-of-lt, lt-trans, div-div-eq-div-mul}
@@ -13,14 +13,13 @@ use Rattle.qspi.specs.Address.{bigEndian, readFrom}
 use Rattle.qspi.specs.Command.{commandBytes}
 use Rattle.qspi.specs.declared.command.Command.{Command}
 use Rattle.qspi.proofs.Addresses.{address-bytes}
-use Rattle.spi_nand.specs.Status.{statusOf, busyOf, writeEnabledOf, eraseFailedOf, programFailedOf, verdictNumber, verdictAt, verdictOf, ECC-MASK, configurationOf, eccEnabledOf, bufferReadOf, otpEnabledOf, quadEnabledOf, withBits, protectionOf, blockProtectBits, isUnlocked}
+use Rattle.spi_flash.specs.Bits.{bit}
+use Rattle.spi_flash.proofs.Bits.{field, any-bit, bit-below, replaced-bit}
+use Rattle.spi_nand.specs.Status.{statusOf, busyOf, writeEnabledOf, eraseFailedOf, programFailedOf, verdictNumber, verdictAt, verdictOf, ECC-MASK, eccEnabledOf, bufferReadOf, otpEnabledOf, quadEnabledOf, withBits, protectionOf, blockProtectBits, isUnlocked}
 use Rattle.spi_nand.specs.Config.{jedecIdOf, fromJedec}
-use Rattle.spi_nand.specs.Command.{rowAddress}
 use Rattle.spi_nand.specs.Datasheet as sheet
-use Rattle.spi_nand.specs.Datasheet.{Part, w25n01gv, w25n02kv, bit, isSet}
+use Rattle.spi_nand.specs.Datasheet.{Part, w25n01gv, w25n02kv}
 use Rattle.spi_nand.specs.DatasheetAgrees.{PagesAgree, ColumnsAgree, CommandsAgree, GeometriesAgree, RegistersAgree, DatasheetAgrees, RustDeparts, statusOfVerdict}
-use Rattle.spi_nand.specs.declared.status.EccVerdict.{EccVerdict}
-use Rattle.spi_nand.proofs.Bits.{field, any-bit, bit-below, replaced-bit}
 
 -- ---- addresses
 

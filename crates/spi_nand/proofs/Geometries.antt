@@ -1,5 +1,5 @@
 -- The bounds, the products inside them, and the geometries that an id gives.
-use Prim.Native.Nat.{ℕ, _+_, _*_, _≤_}
+use Prim.Native.Nat.{_*_, _≤_}
 use mathlib.Core.Path.{_≡_, refl}
 use mathlib.Core.Bool.{Bool, true, _&&_}
 use mathlib.Core.List.{List, [], _∷_}
@@ -8,13 +8,13 @@ use native.Mathlib.Nat.{mul-assoc, mul-le-mul, le-mul-of-pos-right}
 use lib.Dec.{leb, eqb}
 use borrow.Author.Tests.{leb-true}
 use Rattle.qspi.proofs.Tests.{tests}
+use Rattle.spi_flash.proofs.Cases.{by-cases}
+use Rattle.spi_flash.proofs.Table.{both, every}
 use Rattle.spi_nand.specs.Config.{blockSizeOf, pageCountOf, capacityOf, inBounds, KnownNand, knownNandDevices, geometryIn, fromJedec}
 use Rattle.spi_nand.specs.Geometries.{Bounded, Exact, Supported, GeometriesHold}
 use Rattle.spi_nand.specs.declared.config.NandJedecId.{NandJedecId}
 use Rattle.spi_nand.specs.declared.config.NandGeometry.{NandGeometry}
-use Rattle.spi_nand.proofs.Cases.{by-cases}
 use Rattle.spi_nand.proofs.Saturating as products
-use Rattle.spi_nand.proofs.Table.{both, every}
 
 five : (a b c d e : Bool) → (a && b && c && d && e) ≡ true → (a ≡ true) × (b ≡ true) × (c ≡ true) × (d ≡ true) × (e ≡ true)
 five a b c d e h =

@@ -1,7 +1,4 @@
-pub mod Cases
-pub mod Table
-pub mod WaitLimits
-pub mod Bits
+pub mod WaitTable
 pub mod Saturating
 pub mod Known
 pub mod Geometries

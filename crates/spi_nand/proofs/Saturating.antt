@@ -1,12 +1,12 @@
 -- Products that stop at the largest usize.
 use Prim.Native.Nat.{ℕ, zero, suc, _*_, _/_, _≤_, _<_}
-use mathlib.Core.Path.{_≡_, refl, sym, ap, _∙_}
+use mathlib.Core.Path.{_≡_, sym, _∙_}
 use native.Mathlib.Omega.{arith}
 use native.Mathlib.Nat.{le-div-iff-mul-le, div-lt-iff-lt-mul, mul-le-mul-right, le-mul-of-pos-right}
 use lib.Dec.{leb}
 use borrow.Author.Tests.{le-leb, lt-leb}
+use Rattle.spi_flash.proofs.Cases.{by-order}
 use Rattle.spi_nand.specs.Config.{usizeMax, saturating}
-use Rattle.spi_nand.proofs.Cases.{by-order}
 
 -- the quotient by b tells whether the product with b fits
 pub product-fits : (a b : ℕ) → 0 < b → a ≤ usizeMax / b → a * b ≤ usizeMax

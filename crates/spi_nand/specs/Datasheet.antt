@@ -1,10 +1,10 @@
 -- Winbond's datasheets of the W25N01GV and the W25N02KV. Each definition names what it rests on there; none speaks of the driver.
-use Prim.Native.Nat.{ℕ, _+_, _*_, _/_, _%_, _^_}
+use Prim.Native.Nat.{ℕ, _+_, _*_, _%_, _^_}
 use mathlib.Core.Bool.{Bool, _&&_}
 use mathlib.Core.List.{List, [], _∷_, _++_}
-use lib.Dec.{eqb}
 use Rattle.qspi.specs.Choice.{pick}
 use Rattle.qspi.specs.Address.{bigEndian}
+use Rattle.spi_flash.specs.Bits.{isSet, isClear}
 
 pub data Part : Type 0 where
   w25n01gv w25n02kv : Part
@@ -105,16 +105,7 @@ identification w25n02kv = 0xEF ∷ 0xAA ∷ 0x22 ∷ []
 abbrev pub w25m02gvIdentification : List ℕ
 w25m02gvIdentification = 0xEF ∷ 0xAB ∷ 0x21 ∷ []
 
--- ---- registers: bit k of a byte
-
-abbrev pub bit : ℕ → ℕ → ℕ
-bit k byte = byte / 2 ^ k % 2
-
-abbrev pub isSet : ℕ → ℕ → Bool
-isSet k byte = eqb (bit k byte) 1
-
-abbrev pub isClear : ℕ → ℕ → Bool
-isClear k byte = eqb (bit k byte) 0
+-- ---- registers, and each of their bits by its number
 
 -- "Protection Register / Status Register-1", A0
 abbrev pub protectionRegister : ℕ

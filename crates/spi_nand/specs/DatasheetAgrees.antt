@@ -1,16 +1,17 @@
 -- The driver's commands, registers and geometries are those of the datasheets, for every page, column and byte; and where they are not.
 use Prim.Native.Nat.{ℕ, _+_, _*_, _^_, _≤_, _<_}
 use mathlib.Core.Path.{_≡_}
-use mathlib.Core.List.{List, _∷_}
+use mathlib.Core.List.{_∷_}
 use Rattle.qspi.specs.Choice.{pick}
 use Rattle.qspi.specs.Address.{bigEndian, readFrom}
 use Rattle.qspi.specs.Command.{commandBytes}
+use Rattle.spi_flash.specs.Bits.{bit, isSet}
 use Rattle.spi_nand.specs.Opcode.{REG-BLOCK-PROTECTION, REG-CONFIGURATION, REG-STATUS}
 use Rattle.spi_nand.specs.Status.{statusOf, busyOf, writeEnabledOf, eraseFailedOf, programFailedOf, verdictNumber, verdictOf, configurationOf, configurationByte, eccEnabledOf, bufferReadOf, otpEnabledOf, quadEnabledOf, withBits, protectionOf, blockProtectBits, isUnlocked}
 use Rattle.spi_nand.specs.Config.{jedecIdOf, geometryOf, W25N01GV, W25N02KV, fromJedec, QUAD-W25N01GV}
 use Rattle.spi_nand.specs.Command.{resetCommand, readIdCommand, getFeatureCommand, setFeatureCommand, writeEnableCommand, pageReadCommand, readCacheCommand, blockEraseCommand, loadProgramDataCommand, programExecuteCommand, quadReadCacheCommand, quadLoadProgramDataCommand}
 use Rattle.spi_nand.specs.Datasheet as sheet
-use Rattle.spi_nand.specs.Datasheet.{Part, w25n01gv, w25n02kv, bit, isSet}
+use Rattle.spi_nand.specs.Datasheet.{Part, w25n01gv, w25n02kv}
 use Rattle.spi_nand.specs.declared.config.NandGeometry.{NandGeometry}
 use Rattle.spi_nand.specs.declared.status.EccVerdict.{EccVerdict}
 

@@ -1,5 +1,5 @@
 -- What holds of the geometries of Config.
-use Prim.Native.Nat.{ℕ, _+_, _*_, _≤_}
+use Prim.Native.Nat.{_+_, _*_, _≤_}
 use mathlib.Core.Path.{_≡_}
 use mathlib.Core.Bool.{true}
 use Rattle.spi_nand.specs.Config.{blockSizeOf, pageCountOf, capacityOf, inBounds, fromJedec}

@@ -1,5 +1,5 @@
 -- Opcodes, register addresses and wait limits (nand/opcode.rs; document 01, "Wait limits").
-use Prim.Native.Nat.{ℕ, _≤_, _<_}
+use Prim.Native.Nat.{ℕ}
 use mathlib.Core.List.{List, [], _∷_}
 use lib.ListN.{getD}
 use Rattle.spi_flash.specs.declared.wait.Timings.{Timings}
@@ -81,14 +81,3 @@ rowAt row = getD waitLimits row (limits 0 0 0)
 
 unfoldable pub timingsOf : Operation → Timings
 timingsOf operation = rowAt (rowOf operation)
-
--- what holds of every row: a wait asks a delay before each look, and its first delay alone is no timeout
-pub record Waits (t : Timings) : Type 0 where
-  pub first : 1 ≤ t .«initial_us»
-  pub poll : 1 ≤ t .«poll_us»
-  pub below : t .«initial_us» < t .«timeout_us»
-
--- the table's rule
-pub record WaitLimitsHold : Type 0 where
-  pub row : (row : ℕ) → row < 5 → Waits (rowAt row)
-  pub operation : (operation : Operation) → Waits (timingsOf operation)

@@ -1,22 +1,15 @@
 -- The feature registers C0, B0 and A0 (document 01, "Register bytes"; nand/status.rs), in the Rust's masks.
 -- `bitAnd` and `bitOr` are what the language's `&` and `|` compute.
-use Prim.Native.Nat.{ℕ, _*_, _-_, _/_, _^_}
-use mathlib.Core.Bool.{Bool, not}
+use Prim.Native.Nat.{ℕ, _*_, _/_, _%_, _^_}
+use mathlib.Core.Bool.{Bool}
 use lib.Bits.{bitAnd, bitOr}
 use lib.Dec.{eqb}
 use Rattle.qspi.specs.Choice.{pick}
+use Rattle.spi_flash.specs.Bits.{anyOf, bitNot}
 use Rattle.spi_nand.specs.declared.status.Status.{Status}
 use Rattle.spi_nand.specs.declared.status.EccVerdict.{EccVerdict}
 use Rattle.spi_nand.specs.declared.status.Configuration.{Configuration}
 use Rattle.spi_nand.specs.declared.status.Protection.{Protection}
-
--- `byte & mask != 0`
-abbrev pub anyOf : ℕ → ℕ → Bool
-anyOf mask byte = not (eqb (bitAnd byte mask) 0)
-
--- `!byte` of eight bits
-abbrev pub bitNot : ℕ → ℕ
-bitNot byte = 255 - byte
 
 -- ---- the status register, C0
 
@@ -45,6 +38,10 @@ ECC-MASK = 3 * 2 ^ 4
 
 unfoldable pub busyOf : Status → Bool
 busyOf s = anyOf BUSY (s .0)
+
+-- of a number that a read of one byte came to
+abbrev pub busyValue : ℕ → Bool
+busyValue v = busyOf (statusOf (v % 256))
 
 unfoldable pub writeEnabledOf : Status → Bool
 writeEnabledOf s = anyOf WRITE-ENABLED (s .0)

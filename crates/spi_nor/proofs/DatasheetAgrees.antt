@@ -1,18 +1,19 @@
--- The driver against the datasheets: address bytes by the laws of `qspi`, bits by a test that antt computes over all 256 bytes.
+-- The driver against the datasheets: address bytes by the laws of `qspi`, bits by those of `spi_flash`.
 -- Assumes nothing.
-use Prim.Native.Nat.{_≤_}
-use mathlib.Core.Path.{refl}
+use Prim.Native.Nat.{ℕ, _/_, _%_, _≤_, _<_}
+use mathlib.Core.Path.{_≡_, refl, sym, _∙_}
 use mathlib.Core.Bool.{false}
 use native.Mathlib.Omega.{arith}
-use lib.Dec.{eqb}
 use Rattle.qspi.proofs.Addresses.{address-bytes}
+use Rattle.spi_flash.specs.Bits.{bit, isSet}
+use Rattle.spi_flash.proofs.Bits.{any-bit}
 use Rattle.spi_nor.specs.Opcode.{PAGE-PROGRAM, SECTOR-ERASE, BLOCK-ERASE, READ, timingsOf}
 use Rattle.spi_nor.specs.Status.{busyOf, writeEnabledOf, quadEnabled1Of, quadEnabled2Of, unprotected1Of, unprotected2Of}
 use Rattle.spi_nor.specs.Config.{quadW25Q128JV, fromJedec}
 use Rattle.spi_nor.specs.Datasheet as sheet
 use Rattle.spi_nor.specs.DatasheetAgrees.{Instructions, Addresses, StatusRegisters, Parts, Departures, DatasheetAgrees}
 use Rattle.spi_nor.specs.declared.opcode.Operation.{Operation}
-use Rattle.spi_nor.proofs.Bytes.{numbers, truths}
+use Rattle.spi_nor.proofs.StatusBits.{statusBits}
 
 instructions : Instructions
 instructions = record {
@@ -37,17 +38,21 @@ addresses = record {
   w25q128jv = λ offset h. address-bytes .whole 3 offset h;
 }
 
+-- bits below a mask's lowest are kept
+kept : (b : ℕ) → b < 256 → isSet sheet.qeBit (unprotected2Of b) ≡ isSet sheet.qeBit b
+kept b h = let low : b % 32 / 2 % 2 ≡ b / 2 % 2 = omega arith in rw (statusBits .unprotected2 b h, low)
+
 statusRegisters : StatusRegisters
-unfolding busyOf writeEnabledOf quadEnabled2Of unprotected2Of
+unfolding busyOf writeEnabledOf quadEnabled2Of
 statusRegisters = record {
-  busy = truths busyOf (λ b. eqb (sheet.bit sheet.busyBit b) 1) tt;
-  writeEnabled = truths writeEnabledOf (λ b. eqb (sheet.bit sheet.welBit b) 1) tt;
-  quadEnabled2 = truths quadEnabled2Of (λ b. eqb (sheet.bit sheet.qeBit b) 1) tt;
+  busy = λ b h. any-bit sheet.busyBit b;
+  writeEnabled = λ b h. any-bit sheet.welBit b;
+  quadEnabled2 = λ b h. any-bit sheet.qeBit b;
   busyMask = refl;
   writeEnableMask = refl;
   quadMask2 = refl;
   protectMask1 = refl;
-  quadKept2 = truths (λ b. quadEnabled2Of (unprotected2Of b)) quadEnabled2Of tt;
+  quadKept2 = λ b h. any-bit sheet.qeBit (unprotected2Of b) ∙ kept b h ∙ sym (any-bit sheet.qeBit b);
 }
 
 parts : Parts
@@ -61,14 +66,20 @@ enough Operation.SectorErase = omega arith
 enough Operation.BlockErase = omega arith
 enough Operation.StatusWrite = omega arith
 
+lost : (b : ℕ) → b < 256 → isSet sheet.secBit (unprotected1Of b) ≡ false
+lost b h = let none : b % 4 / 64 % 2 ≡ 0 = omega arith in rw (statusBits .unprotected1 b h, none)
+
+lock-kept : (b : ℕ) → b < 256 → bit sheet.srlBit (unprotected2Of b) ≡ bit sheet.srlBit b
+lock-kept b h = rw (statusBits .unprotected2 b h) (omega arith)
+
 departures : Departures
-unfolding quadEnabled1Of unprotected1Of unprotected2Of
+unfolding quadEnabled1Of
 departures = record {
   quadMask1 = refl;
-  quadEnabled1 = truths quadEnabled1Of (λ b. eqb (sheet.bit sheet.secBit b) 1) tt;
-  quadLost1 = truths (λ b. quadEnabled1Of (unprotected1Of b)) (λ b. false) tt;
+  quadEnabled1 = λ b h. any-bit sheet.secBit b;
+  quadLost1 = λ b h. any-bit sheet.secBit (unprotected1Of b) ∙ lost b h;
   protectMask2 = refl;
-  lockKept2 = numbers (λ b. sheet.bit sheet.srlBit (unprotected2Of b)) (sheet.bit sheet.srlBit) tt;
+  lockKept2 = lock-kept;
 }
 
 pub datasheetAgrees : DatasheetAgrees

@@ -10,15 +10,12 @@ use lib.Pow.{pow-mono}
 use borrow.Author.Tests.{eqb-true, leb-true, leb-false}
 use Rattle.qspi.specs.Choice.{pick}
 use Rattle.qspi.proofs.Tests.{tests}
+use Rattle.spi_flash.proofs.Cases.{by-cases}
 use Rattle.spi_nor.specs.Config.{largestCapacity, largestPage, standardDevice, jedecId, sameId, unknownDevice, capacityBytesOf, fromJedec, inBoundsOf}
 use Rattle.spi_nor.specs.DeviceBounds.{InBounds, DeviceBounds}
 use Rattle.spi_nor.specs.declared.config.NorJedecId.{NorJedecId}
 use Rattle.spi_nor.specs.declared.config.CapacityBytes.{CapacityBytes}
 use Rattle.spi_nor.specs.declared.config.NorDeviceInfo.{NorDeviceInfo}
-
-by-test : {G : Type 0} (b : Bool) → (b ≡ true → G) → (b ≡ false → G) → G
-by-test true f g = f refl
-by-test false f g = g refl
 
 -- ---- the test
 
@@ -103,8 +100,8 @@ standard n h = record { device = n; small = h; is = refl }
 
 other : (id : NorJedecId) → Standard (unknownDevice (capacityBytesOf id))
 other id =
-    by-test (leb 16 (id .capacity))
-    (λ low. by-test (leb (id .capacity) 24)
+    by-cases (leb 16 (id .capacity))
+    (λ low. by-cases (leb (id .capacity) 24)
     (λ high. rw (code id (leb-true _ _ low) (leb-true _ _ high)) (standard (2 ^ id .capacity) (pow-mono {j = 24} (leb-true _ _ high))))
     (λ high. rw (high-code id (leb-false _ _ high)) (standard 16777216 (omega arith))))
     (λ low. rw (low-code id (leb-false _ _ low)) (standard 16777216 (omega arith)))

@@ -1,5 +1,5 @@
-pub mod Bytes
 pub mod WaitTable
 pub mod StatusBits
 pub mod DeviceBounds
 pub mod DatasheetAgrees
+pub mod Pieces

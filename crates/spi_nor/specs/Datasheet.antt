@@ -1,5 +1,5 @@
 -- Winbond W25Q128JV and W25Q64JV: facts from their datasheets, each with the table it rests on. Bytes are hexadecimal.
-use Prim.Native.Nat.{ℕ, _+_, _*_, _/_, _%_, _^_}
+use Prim.Native.Nat.{ℕ, _+_, _*_, _^_}
 use mathlib.Core.List.{List, [], _∷_}
 use Rattle.qspi.specs.Address.{bigEndian}
 use Rattle.spi_nor.specs.declared.opcode.Operation.{Operation}
@@ -58,9 +58,6 @@ abbrev pub quadInputPageProgram : ℕ → List ℕ
 quadInputPageProgram address = 0x32 ∷ addressBytes address
 
 -- ---- "Status Register-1" (S7-S0) and "Status Register-2" (S15-S8): each bit by its number in its register
-
-abbrev pub bit : ℕ → ℕ → ℕ
-bit k byte = byte / 2 ^ k % 2
 
 -- the mask of some bits
 abbrev pub maskOf : List ℕ → ℕ

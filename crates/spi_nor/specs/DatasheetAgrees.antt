@@ -3,9 +3,9 @@ use Prim.Native.Nat.{ℕ, _≤_, _<_}
 use mathlib.Core.Path.{_≡_}
 use mathlib.Core.Bool.{false}
 use mathlib.Core.List.{[], _∷_}
-use lib.Dec.{eqb}
 use Rattle.qspi.specs.Address.{SentWhole}
 use Rattle.qspi.specs.Command.{commandBytes}
+use Rattle.spi_flash.specs.Bits.{bit, isSet}
 use Rattle.spi_nor.specs.Opcode.{timingsOf}
 use Rattle.spi_nor.specs.Status.{BUSY, WRITE-ENABLE-LATCH, QE-SR1, QE-SR2, SR1-PROTECT-MASK, SR2-PROTECT-MASK, busyOf, writeEnabledOf, quadEnabled1Of, quadEnabled2Of, unprotected1Of, unprotected2Of}
 use Rattle.spi_nor.specs.Config.{quadW25Q128JV, jedecId, fromJedec}
@@ -36,9 +36,9 @@ pub record Addresses : Type 0 where
   pub w25q128jv : (offset : ℕ) → offset < sheet.w25q128jvBytes → SentWhole 3 offset
 
 pub record StatusRegisters : Type 0 where
-  pub busy : (b : ℕ) → b < 256 → busyOf b ≡ eqb (sheet.bit sheet.busyBit b) 1
-  pub writeEnabled : (b : ℕ) → b < 256 → writeEnabledOf b ≡ eqb (sheet.bit sheet.welBit b) 1
-  pub quadEnabled2 : (b : ℕ) → b < 256 → quadEnabled2Of b ≡ eqb (sheet.bit sheet.qeBit b) 1
+  pub busy : (b : ℕ) → b < 256 → busyOf b ≡ isSet sheet.busyBit b
+  pub writeEnabled : (b : ℕ) → b < 256 → writeEnabledOf b ≡ isSet sheet.welBit b
+  pub quadEnabled2 : (b : ℕ) → b < 256 → quadEnabled2Of b ≡ isSet sheet.qeBit b
   pub busyMask : BUSY ≡ sheet.maskOf (sheet.busyBit ∷ [])
   pub writeEnableMask : WRITE-ENABLE-LATCH ≡ sheet.maskOf (sheet.welBit ∷ [])
   pub quadMask2 : QE-SR2 ≡ sheet.maskOf (sheet.qeBit ∷ [])
@@ -65,12 +65,12 @@ pub record Limits : Type 0 where
 pub record Departures : Type 0 where
   -- QE_SR1: what the Rust takes for quad enable in register-1 is SEC
   pub quadMask1 : QE-SR1 ≡ sheet.maskOf (sheet.secBit ∷ [])
-  pub quadEnabled1 : (b : ℕ) → b < 256 → quadEnabled1Of b ≡ eqb (sheet.bit sheet.secBit b) 1
+  pub quadEnabled1 : (b : ℕ) → b < 256 → quadEnabled1Of b ≡ isSet sheet.secBit b
   -- and `unprotect` clears it
   pub quadLost1 : (b : ℕ) → b < 256 → quadEnabled1Of (unprotected1Of b) ≡ false
   -- SR2_PROTECT_MASK covers LB3, CMP and SUS, and leaves SRL (SRP1), which the Rust's comment names
   pub protectMask2 : SR2-PROTECT-MASK ≡ sheet.maskOf (sheet.lb3Bit ∷ sheet.cmpBit ∷ sheet.susBit ∷ [])
-  pub lockKept2 : (b : ℕ) → b < 256 → sheet.bit sheet.srlBit (unprotected2Of b) ≡ sheet.bit sheet.srlBit b
+  pub lockKept2 : (b : ℕ) → b < 256 → bit sheet.srlBit (unprotected2Of b) ≡ bit sheet.srlBit b
 
 pub record DatasheetAgrees : Type 0 where
   pub instructions : Instructions

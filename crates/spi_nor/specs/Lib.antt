@@ -1,9 +1,16 @@
 pub mod Opcode
-pub mod WaitTable
 pub mod Status
 pub mod StatusBits
 pub mod Config
 pub mod DeviceBounds
 pub mod Command
+pub mod WaitTable
 pub mod Datasheet
 pub mod DatasheetAgrees
+pub mod Transfer
+pub mod Next
+pub mod Step
+pub mod Call
+pub mod Rust
+pub mod Program
+pub mod Bound

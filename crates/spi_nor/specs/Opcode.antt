@@ -74,6 +74,8 @@ rowOf Operation.SectorErase = 1
 rowOf Operation.BlockErase = 2
 rowOf Operation.StatusWrite = 3
 
--- the operation's row
+abbrev pub rowAt : ℕ → Timings
+rowAt row = getD waitTable row (waitRow 0 0 0)
+
 unfoldable pub timingsOf : Operation → Timings
-timingsOf operation = getD waitTable (rowOf operation) (waitRow 0 0 0)
+timingsOf operation = rowAt (rowOf operation)

@@ -1,0 +1,7 @@
+// SpiNorFlash (nor/driver.rs) as a machine that the host steps: each bus call of the Rust is an action given out.
+pub mod call;
+pub mod next;
+pub mod phase;
+pub mod state;
+pub mod step;
+pub mod transfer;
