@@ -1,3 +1,5 @@
 pub mod Tests
 pub mod Filler
 pub mod Addresses
+pub mod Numbers
+pub mod Sent

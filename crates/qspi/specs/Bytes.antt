@@ -1,5 +1,5 @@
 -- Parts of lent slices, numbers, comparisons and deliveries.
-use Prim.Native.Nat.{ℕ, _+_, _-_, _*_, _%_, _^_}
+use Prim.Native.Nat.{ℕ, _+_, _-_, _*_, _%_, _<_}
 use mathlib.Core.List.{List, [], _∷_}
 use lib.ListN.{length, take, drop, set, replicate}
 use lib.Seq.{paste}
@@ -16,6 +16,11 @@ partOf s from len = pick (leb from (length s)) (pick (leb len (length s - from))
 abbrev pub sentOf : Part → List ℕ → List ℕ → List ℕ
 sentOf (Part.Scratch from len) scratch lent = partOf scratch from len
 sentOf (Part.Data from len) scratch lent = partOf lent from len
+
+-- the elements of a slice of bytes
+abbrev pub AllBytes : List ℕ → Type 0
+AllBytes [] = Unit {0}
+AllBytes (b ∷ bs) = (b < 256) × AllBytes bs
 
 -- highest byte first, in 64 bits: u64::from_be_bytes for up to eight bytes
 abbrev pub numberFrom : ℕ → List ℕ → ℕ

@@ -3,5 +3,7 @@ pub mod Bus
 pub mod Command
 pub mod Address
 pub mod Bytes
+pub mod Numbers
 pub mod Shown
 pub mod Frame
+pub mod ShownBytes

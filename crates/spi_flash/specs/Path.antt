@@ -1,8 +1,9 @@
 -- The paths through a program: what every path keeps to, and what some path of fitting replies comes to.
-use Prim.Native.Nat.{ℕ, _+_, _≤_, _<_}
+use Prim.Native.Nat.{ℕ, _+_, _≤_}
 use mathlib.Core.Path.{_≡_}
 use mathlib.Core.List.{List, [], _∷_, _++_}
 use lib.ListN.{length}
+use Rattle.qspi.specs.Bytes.{AllBytes}
 use Rattle.qspi.specs.Frame.{valueOf}
 use Rattle.qspi.specs.declared.transfer.Transfer.{Transfer}
 use Rattle.qspi.specs.declared.transfer.Sink.{Sink}
@@ -23,10 +24,6 @@ pub data End (A : Type 0) : Type 0 where
   failed : FlashError → End A
 
 -- ---- replies that fit
-
-abbrev pub AllBytes : List ℕ → Type 0
-AllBytes [] = Unit {0}
-AllBytes (b ∷ bs) = (b < 256) × AllBytes bs
 
 -- bytes that answer a read of n with the value v, on the caller's data
 pub record Answers (given : List ℕ) (n : ℕ) (sink : Sink) (v : ℕ) : Type 0 where

@@ -7,10 +7,3 @@ pub mod Command
 pub mod WaitTable
 pub mod Datasheet
 pub mod DatasheetAgrees
-pub mod Transfer
-pub mod Next
-pub mod Step
-pub mod Call
-pub mod Rust
-pub mod Program
-pub mod Bound

@@ -1,6 +1,5 @@
-// The SPI NOR driver.
+// The SPI NOR part: its opcodes, registers, geometries and commands.
 pub mod command;
 pub mod config;
-pub mod driver;
 pub mod opcode;
 pub mod status;

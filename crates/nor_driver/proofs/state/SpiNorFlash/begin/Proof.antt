@@ -1,0 +1,28 @@
+use Rattle.nor_driver.specs.Call.{beginOf}
+use borrow.Author.Needs.{needs}
+use Rattle.nor_driver.proofs.state.SpiNorFlash.begin.Statement.{statement}
+use Rattle.nor_driver.proofs.state.SpiNorFlash.begin.Tie as tie
+
+enum-told : tie.Need-enum-told
+enum-told c = search needs
+
+idle-requires : tie.Need-idle-requires
+idle-requires c κs = search needs
+
+enum-told-2 : tie.Need-enum-told-2
+enum-told-2 c = search needs
+
+refused-requires : tie.Need-refused-requires
+refused-requires c κs = search needs
+
+returns : tie.Need-returns
+unfolding beginOf
+returns c = simp (c .before .enum-told .given .1, ← c .idle .ensures)
+
+returns-2 : tie.Need-returns-2
+unfolding beginOf
+returns-2 c = simp (c .before .enum-told2 .given .1, ← c .refused .ensures)
+
+pub begin-spec : {M : Type 1} → statement M
+begin-spec =
+    tie.close (tie.spec enum-told idle-requires enum-told-2 refused-requires returns returns-2)

@@ -1,0 +1,7 @@
+pub mod Transfer
+pub mod Next
+pub mod Step
+pub mod Call
+pub mod Rust
+pub mod Program
+pub mod Bound

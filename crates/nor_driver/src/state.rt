@@ -1,0 +1,102 @@
+// The driver's state, its calls and its answers.
+use crate::phase::Phase;
+use qspi::bus::Action;
+use qspi::frame::Frame;
+use qspi::transfer::Transfer;
+use spi_flash::error::FlashError;
+use spi_flash::loan::Takes;
+use spi_nor::config::NorDeviceInfo;
+use spi_nor::config::NorJedecId;
+use spi_nor::config::SpiNorConfig;
+
+// What the Rust's struct holds beside its bus.
+pub struct Setup {
+    pub config: SpiNorConfig,
+    pub device: NorDeviceInfo,
+    pub id: NorJedecId,
+}
+
+// A call under way.
+pub struct Job {
+    pub phase: Phase,
+    pub frame: Frame,
+    pub takes: Takes,
+}
+
+pub enum Running {
+    Idle,
+    Busy(Job),
+}
+
+pub struct SpiNorFlash {
+    pub setup: Setup,
+    // The last construction begun has succeeded.
+    pub built: bool,
+    // Bytes that the last call begun has put into the caller's buffer.
+    pub delivered: usize,
+    pub running: Running,
+}
+
+pub enum Call {
+    New,
+    WithConfig(SpiNorConfig),
+    Config,
+    Device,
+    Id,
+    Free,
+    ReadStatus1,
+    ReadStatus2,
+    IsBusy,
+    JedecId,
+    UniqueId,
+    QuadEnabled,
+    EnableQuad,
+    DisableQuad,
+    Read { offset: u32 },
+    Write { offset: u32 },
+    Unprotect,
+    Erase { from: u32, to: u32 },
+    EraseSector { offset: u32 },
+    EraseBlock { offset: u32 },
+}
+
+// What a call that succeeds answers.
+pub enum Answer {
+    Done,
+    Byte(u8),
+    Flag(bool),
+    Id(NorJedecId),
+    UniqueId(u64),
+    Unprotected { before: u8, after: u8 },
+    Device(NorDeviceInfo),
+    Config(SpiNorConfig),
+}
+
+pub enum Given {
+    Act(Action),
+    // The call has succeeded.
+    Ended(Answer),
+    // A call that had begun has failed.
+    Failed(FlashError),
+    // Turned away: nothing has changed.
+    Refused(FlashError),
+}
+
+pub struct Stepped {
+    pub flash: SpiNorFlash,
+    pub given: Given,
+}
+
+// What follows a transfer: another one, or the call's end.
+pub enum Then {
+    Go {
+        setup: Setup,
+        transfer: Transfer,
+        phase: Phase,
+    },
+    End {
+        setup: Setup,
+        answer: Answer,
+    },
+    Fail(FlashError),
+}
