@@ -20,10 +20,11 @@ use Rattle.spi_flash.proofs.Cases.{by-cases}
 use Rattle.spi_flash.proofs.Waiting.{wait-in-general}
 use Rattle.spi_nor.specs.Opcode.{timingsOf}
 use Rattle.spi_nor.specs.Status.{busyOf, writeEnabledOf, quadEnabled1Of, quadEnabled2Of, withQuad1Of, withQuad2Of, withoutQuad1Of, withoutQuad2Of, unprotected1Of, unprotected2Of}
-use Rattle.spi_nor.specs.Command.{writeEnableCommand, readStatus1Command, readStatus2Command, readIdCommand}
+use Rattle.spi_nor.specs.Command.{writeEnableCommand, readStatus1Command, readStatus2Command, readIdCommand, readUniqueIdCommand}
 use Rattle.nor_driver.specs.Transfer.{numberTransfer, placeOf, chunkOf, pageOf, readTransfer, taskTransfer, taskOperation, inRange, multipleOf, unitSize, stepKind, afterUnit}
 use Rattle.nor_driver.specs.Next.{byteOf, idOf, deviceAt, deviceFor, knownAs, builtThen, readFrom, programFrom, verifyThen, verifiedThen, latchedThen, eraseUnit, eraseFrom, unprotectFirst, unprotectSecond, resumeTask, waitThen, identifiedThen, afterPhase, nextOf}
 use Rattle.nor_driver.specs.Rust.{Nothing, busyValue, read-status1, read-status2, is-busy, wait-ready, write-enable, write-status1, write-status2, jedec-id, unique-id, quad-enabled, enable-quad, disable-quad, reading, read, read-back, page-program, writing, write, erase-unit, erasing, erase, Unprotected, unprotect, quad-if, with-config}
+use Rattle.nor_driver.specs.Call.{freshSetup}
 use Rattle.nor_driver.specs.Program.{Left, leaving, programOf}
 use Rattle.spi_nor.specs.WaitTable.{WaitTable}
 use Rattle.spi_nor.specs.Config.{inBoundsOf, fromJedec}
@@ -34,6 +35,7 @@ use Rattle.spi_nor.specs.declared.config.DeviceSetting.{DeviceSetting}
 use Rattle.spi_nor.specs.declared.config.NorDeviceInfo.{NorDeviceInfo}
 use Rattle.spi_nor.specs.declared.config.NorJedecId.{NorJedecId}
 use Rattle.spi_nor.specs.declared.config.QuadSetting.{QuadSetting}
+use Rattle.spi_nor.specs.declared.config.SpiNorConfig.{SpiNorConfig}
 use Rattle.nor_driver.specs.declared.phase.EraseKind.{EraseKind}
 use Rattle.nor_driver.specs.declared.phase.Phase.{Phase}
 use Rattle.nor_driver.specs.declared.phase.Task.{Task}
@@ -60,7 +62,7 @@ decideNext s o = decide (nextOf (s .setup) (s .phase) o)
 
 -- ---- what the Rust still does
 
-abbrev DONE : Setup → Prog Left
+abbrev pub DONE : Setup → Prog Left
 DONE s = ret (leaving s Answer.Done)
 
 -- the write of a task: write_enable, the command, wait_ready
@@ -324,11 +326,15 @@ unprotects1 s before v =
 
 -- ---- the loops
 
+pub starts : {A : Type 0} (a : A) → ret (tt {0}) >> ret a ≡ ret a
+unfolding _>>=_ _>>_
+starts a = refl
+
 finishes : (s : Setup) → ret (tt {0}) >> DONE s ≡ DONE s
 unfolding _>>=_ _>>_
 finishes s = refl
 
-reads-on : (s : Setup) (offset len done : ℕ) → reading s offset len done >> DONE s ≡ tree meaning (decide (readFrom s offset len done))
+pub reads-on : (s : Setup) (offset len done : ℕ) → reading s offset len done >> DONE s ≡ tree meaning (decide (readFrom s offset len done))
 unfolding readFrom meaningAt _>>=_ _>>_
 reads-on s offset len done = rw (reading-loop s offset len done) (by-cases (ltb done len) (λ e. rw e) (λ e. rw e))
 
@@ -342,7 +348,7 @@ module _ (s : Setup) (valid : inBoundsOf (s .device) ≡ true) where
       sym (then-assoc write-enable (transfer (taskTransfer s task) >> waitOf task) (read-back s (placeOf offset done) (pageOf (s .device) len done) done >>= verified)
       ∙ ap (λ p. write-enable >> p) (then-assoc (transfer (taskTransfer s task)) (waitOf task) (read-back s (placeOf offset done) (pageOf (s .device) len done) done >>= verified)))
 
-  writes-on : (offset len done : ℕ) → writing s offset len done >> DONE s ≡ tree meaning (decide (programFrom s offset len done))
+  pub writes-on : (offset len done : ℕ) → writing s offset len done >> DONE s ≡ tree meaning (decide (programFrom s offset len done))
   unfolding programFrom context
   writes-on offset len done =
       rw (writing-loop s (deviceBounds .accepted (s .device) valid .leastPage) offset len done, page-task offset len done)
@@ -360,7 +366,7 @@ module _ (s : Setup) (valid : inBoundsOf (s .device) ≡ true) where
   verified-page offset len done v =
       by-cases (eqb v 0) (λ e. rw e) (λ e. rw e (writes-on offset len (done + pageOf (s .device) len done)))
 
-  erases-unit : (kind : EraseKind) (address end : ℕ) → (erase-unit s kind address >> erasing s (afterUnit (s .device) kind address) end) >> DONE s
+  pub erases-unit : (kind : EraseKind) (address end : ℕ) → (erase-unit s kind address >> erasing s (afterUnit (s .device) kind address) end) >> DONE s
       ≡ tree meaning (decide (eraseUnit s kind address end))
   unfolding eraseUnit erase-unit refuse context taskTransfer taskOperation _>>=_ _>>_
   erases-unit kind address end =
@@ -368,7 +374,7 @@ module _ (s : Setup) (valid : inBoundsOf (s .device) ≡ true) where
       (λ e. by-cases (multipleOf address (unitSize (s .device) kind)) (λ d. rw (e, d) (enables s (Task.Erase kind address end))) (λ d. rw (e, d)))
       (λ e. rw e)
 
-  erases-on : (address end : ℕ) → erasing s address end >> DONE s ≡ tree meaning (decide (eraseFrom s address end))
+  pub erases-on : (address end : ℕ) → erasing s address end >> DONE s ≡ tree meaning (decide (eraseFrom s address end))
   unfolding eraseFrom
   erases-on address end =
       rw (erasing-loop s valid address end)
@@ -475,7 +481,7 @@ keeps-device DeviceSetting.Detect device id h = deviceBounds .accepts (fromJedec
 keeps-device (DeviceSetting.Given own) device id h = h
 
 -- a test between two ways of going on
-keeps-pick : (b : Bool) (x y : Then) → Onward Valid (decide x) → Onward Valid (decide y) → Onward Valid (decide (pick b x y))
+pub keeps-pick : (b : Bool) (x y : Then) → Onward Valid (decide x) → Onward Valid (decide y) → Onward Valid (decide (pick b x y))
 keeps-pick true x y h k = h
 keeps-pick false x y h k = k
 
@@ -484,11 +490,11 @@ module _ (s : Setup) (valid : inBoundsOf (s .device) ≡ true) where
   unfolding latchedThen
   keeps-latched task b = keeps-pick (writeEnabledOf b) _ _ valid tt
 
-  keeps-read : (offset len done : ℕ) → Onward Valid (decide (readFrom s offset len done))
+  pub keeps-read : (offset len done : ℕ) → Onward Valid (decide (readFrom s offset len done))
   unfolding readFrom
   keeps-read offset len done = keeps-pick (ltb done len) _ _ valid tt
 
-  keeps-program : (offset len done : ℕ) → Onward Valid (decide (programFrom s offset len done))
+  pub keeps-program : (offset len done : ℕ) → Onward Valid (decide (programFrom s offset len done))
   unfolding programFrom
   keeps-program offset len done = keeps-pick (ltb done len) _ _ valid tt
 
@@ -500,13 +506,13 @@ module _ (s : Setup) (valid : inBoundsOf (s .device) ≡ true) where
   unfolding verifiedThen
   keeps-verified offset len done v = keeps-pick (eqb v 0) _ _ tt (keeps-program offset len (done + pageOf (s .device) len done))
 
-  keeps-unit : (kind : EraseKind) (address end : ℕ) → Onward Valid (decide (eraseUnit s kind address end))
+  pub keeps-unit : (kind : EraseKind) (address end : ℕ) → Onward Valid (decide (eraseUnit s kind address end))
   unfolding eraseUnit
   keeps-unit kind address end =
       keeps-pick (inRange (s .device .capacity) address (unitSize (s .device) kind)) _ _
       (keeps-pick (multipleOf address (unitSize (s .device) kind)) _ _ valid tt) tt
 
-  keeps-erase : (address end : ℕ) → Onward Valid (decide (eraseFrom s address end))
+  pub keeps-erase : (address end : ℕ) → Onward Valid (decide (eraseFrom s address end))
   unfolding eraseFrom
   keeps-erase address end = keeps-pick (ltb address end) _ _ (keeps-unit (stepKind (s .device) address end) address end) tt
 
@@ -586,4 +592,36 @@ simulates = record {
   onValue = λ s v valid. follows (s .setup) valid (s .phase) v;
   onFailure = λ s code. refl;
   keeps = λ s v valid. keeps (s .setup) valid (s .phase) v;
+}
+
+-- ---- the calls as begun
+
+abbrev pub Starts : Setup → Transfer → Phase → Prog Left → Type 0
+Starts s t phase p = p ≡ ask t (meaning (place s phase))
+
+pub record Beginnings (s : Setup) : Type 0 where
+  pub construction : (config : SpiNorConfig) → Starts (freshSetup config) Transfer.Raise Phase.Raised (with-config config >>= DONE)
+  pub status1 : Starts s (numberTransfer readStatus1Command 1) Phase.Status1 (read-status1 >>= (λ b. ret (leaving s (Answer.Byte b))))
+  pub status2 : Starts s (numberTransfer readStatus2Command 1) Phase.Status2 (read-status2 >>= (λ b. ret (leaving s (Answer.Byte b))))
+  pub busy : Starts s (numberTransfer readStatus1Command 1) Phase.Busy (is-busy >>= (λ b. ret (leaving s (Answer.Flag b))))
+  pub id : Starts s (numberTransfer readIdCommand 3) Phase.JedecId (jedec-id >>= (λ i. ret (leaving s (Answer.Id i))))
+  pub uniqueId : Starts s (numberTransfer readUniqueIdCommand 8) Phase.UniqueId (unique-id >>= (λ v. ret (leaving s (Answer.UniqueId v))))
+  pub quadEnabled : Starts s (numberTransfer readStatus2Command 1) Phase.QuadEnabled2 (quad-enabled >>= (λ e. ret (leaving s (Answer.Flag e))))
+  pub enableQuad : Starts s (numberTransfer readStatus2Command 1) Phase.EnableCheck2 (enable-quad >> DONE s)
+  pub disableQuad : Starts s (numberTransfer readStatus2Command 1) Phase.DisableRead2 (disable-quad >> DONE s)
+  pub unprotected : Starts s (numberTransfer readStatus1Command 1) Phase.UnprotectRead1 (unprotect >>= (λ u. ret (leaving s (Answer.Unprotected (u .before) (u .after)))))
+
+pub beginnings : (s : Setup) → Beginnings s
+unfolding meaningAt with-config is-busy jedec-id unique-id quad-enabled disable-quad cleared2 cleared1 unprotect second reread told _>>=_ _>>_
+beginnings s = record {
+  construction = λ config. refl;
+  status1 = refl;
+  status2 = refl;
+  busy = refl;
+  id = refl;
+  uniqueId = refl;
+  quadEnabled = refl;
+  enableQuad = quad-starts s;
+  disableQuad = refl;
+  unprotected = refl;
 }

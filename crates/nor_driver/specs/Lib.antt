@@ -5,3 +5,6 @@ pub mod Call
 pub mod Rust
 pub mod Program
 pub mod Bound
+pub mod ProgramBounds
+pub mod Run
+pub mod Promises

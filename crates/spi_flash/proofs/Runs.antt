@@ -184,7 +184,7 @@ module _ {S A C : Type 0} (Valid : S → Type 0) (next : S → Outcome → Decis
 
 -- ---- the delays given out
 
-first-delay : (t : Transfer) (scratch lent : List ℕ) → delayOf (shownOf (actionOf (firstOf t)) scratch lent) ≡ delays t
+pub first-delay : (t : Transfer) (scratch lent : List ℕ) → delayOf (shownOf (actionOf (firstOf t)) scratch lent) ≡ delays t
 unfolding actionOf firstOf
 first-delay Transfer.Raise s l = refl
 first-delay (Transfer.Pause us) s l = refl

@@ -1,0 +1,44 @@
+-- The promises of the NOR driver over every run: over every state, call, lent bytes and list of events, refused replies and calls
+-- begun meanwhile among them, every event with lent bytes of its own.
+use Prim.Native.Nat.{ℕ, _≤_}
+use mathlib.Core.Path.{_≡_}
+use mathlib.Core.List.{List}
+use lib.ListN.{length}
+use Rattle.qspi.specs.Bytes.{AllBytes}
+use Rattle.spi_flash.specs.Loan.{Lent}
+use Rattle.spi_flash.specs.Run.{Event, Given, act, ended, failed, refused, delayAsked, Fitting, HasEnded, Answer, answering, Lending, runOf}
+use Rattle.nor_driver.specs.Bound.{delayBound, actionBound}
+use Rattle.nor_driver.specs.Program.{Left}
+use Rattle.nor_driver.specs.Run.{nor, takesOf}
+use Rattle.nor_driver.specs.declared.state.Call.{Call}
+use Rattle.nor_driver.specs.declared.state.SpiNorFlash.{SpiNorFlash}
+
+-- a call has begun when it gives out its first action
+abbrev pub GivesAction : {A : Type 0} → Given A → Type 0
+GivesAction (act shown) = Unit {0}
+GivesAction (ended a) = ⊥
+GivesAction (failed e) = ⊥
+GivesAction (refused e) = ⊥
+
+abbrev pub Begun : SpiNorFlash → Call → Lent → Type 0
+Begun flash call l = GivesAction (nor .begin flash call l .given)
+
+-- replies, and that they come to b whatever scratch and buffer are lent with the caller's data
+pub record ComesTo (flash : SpiNorFlash) (call : Call) (l : Lent) (b : ℕ) : Type 0 where
+  pub replies : List Answer
+  pub fits : (ls : List Lent) → length ls ≡ length replies → Lending (takesOf call l) (l .given) ls →
+      Fitting (runOf nor flash call l (answering replies ls))
+  pub asks : (ls : List Lent) → length ls ≡ length replies → Lending (takesOf call l) (l .given) ls →
+      delayAsked (runOf nor flash call l (answering replies ls)) ≡ b
+
+pub record Demand3 : Type 0 where
+  -- "the delay summed over the actions given out is at most the call's bill in the documents"
+  pub bounded : (flash : SpiNorFlash) (call : Call) (l : Lent) (es : List (Event Call)) →
+      delayAsked (runOf nor flash call l es) ≤ delayBound (flash .setup) call (length (l .given))
+  -- "and for each call some replies reach its bill"
+  pub reached : (flash : SpiNorFlash) (call : Call) (l : Lent) → AllBytes (l .given) → Begun flash call l →
+      ComesTo flash call l (delayBound (flash .setup) call (length (l .given)))
+  -- "comes to an end": on every list of fitting replies as long as the bound on its actions
+  pub ends : (flash : SpiNorFlash) (call : Call) (l : Lent) (es : List (Event Call)) → Begun flash call l →
+      Fitting (runOf nor flash call l es) → actionBound (flash .setup) call (length (l .buffer)) (length (l .given)) ≤ length es →
+      HasEnded (runOf nor flash call l es)
