@@ -2,6 +2,7 @@ pub mod Transfer
 pub mod Next
 pub mod Step
 pub mod Call
+pub mod Answer
 pub mod Rust
 pub mod Program
 pub mod Bound

@@ -3,7 +3,7 @@ use crate::line;
 use spi_flash::error::FlashError;
 use spi_flash::error::NorFlashErrorKind;
 
-pub fn all() {
+pub(crate) fn all() {
     error(b"spi", FlashError::Spi(255));
     error(b"timeout", FlashError::Timeout);
     error(b"not_aligned", FlashError::NotAligned);

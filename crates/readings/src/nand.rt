@@ -6,7 +6,7 @@ use spi_nand::opcode;
 use spi_nand::opcode::Operation;
 
 // The known ids, then some that fall back: a W25N02KV's by its datasheet, another maker's, and zeros.
-pub fn ids() {
+pub(crate) fn ids() {
     id(0xEF, 0xAA, 0x21);
     id(0xEF, 0xAB, 0x21);
     id(0xC8, 0xD1, 0x48);
@@ -32,7 +32,7 @@ fn geometry(g: NandGeometry) {
     line::size(g.block_count);
 }
 
-pub fn sizes() {
+pub(crate) fn sizes() {
     products(b"w25n01gv", NandGeometry::W25N01GV);
     products(b"w25n02kv", NandGeometry::W25N02KV);
 }
@@ -45,7 +45,7 @@ fn products(name: &[u8], g: NandGeometry) {
     line::end();
 }
 
-pub fn waits() {
+pub(crate) fn waits() {
     line::wait(b"nand_reset", opcode::timings(Operation::Reset));
     line::wait(b"nand_page_load", opcode::timings(Operation::PageRead));
     line::wait(b"nand_program", opcode::timings(Operation::Program));
@@ -54,7 +54,7 @@ pub fn waits() {
 }
 
 // On each bound, and one past it.
-pub fn bounds() {
+pub(crate) fn bounds() {
     bound(1, 0, 1, 1);
     bound(0, 0, 1, 1);
     bound(1, 0, 0, 1);

@@ -7,7 +7,7 @@ use spi_nor::opcode;
 use spi_nor::opcode::Operation;
 
 // The known ids, then some that fall back: on a capacity code, and beside the codes.
-pub fn ids() {
+pub(crate) fn ids() {
     id(0xEF, 0x40, 0x17);
     id(0xEF, 0x40, 0x18);
     id(0xC8, 0x40, 0x18);
@@ -39,7 +39,7 @@ fn device(d: NorDeviceInfo) {
     line::size(d.page_size);
 }
 
-pub fn codes() {
+pub(crate) fn codes() {
     code(0x0F);
     code(0x10);
     code(0x18);
@@ -62,7 +62,7 @@ fn code(capacity: u8) {
     line::end();
 }
 
-pub fn waits() {
+pub(crate) fn waits() {
     line::wait(b"nor_program", opcode::timings(Operation::PageProgram));
     line::wait(b"nor_sector", opcode::timings(Operation::SectorErase));
     line::wait(b"nor_block", opcode::timings(Operation::BlockErase));
@@ -70,7 +70,7 @@ pub fn waits() {
 }
 
 // On each bound, and one past it.
-pub fn bounds() {
+pub(crate) fn bounds() {
     bound(0, 4_096, 65_536, 256);
     bound(16_777_216, 4_096, 65_536, 256);
     bound(16_777_217, 4_096, 65_536, 256);

@@ -4,6 +4,7 @@ use mathlib.Core.Bool.{Bool, false}
 use mathlib.Core.List.{List, [], _∷_}
 use lib.Dec.{leb, eqb}
 use Rattle.qspi.specs.Choice.{pick}
+use Rattle.spi_nor.specs.Opcode.{QUAD-READ, QUAD-PAGE-PROGRAM}
 use Rattle.spi_nor.specs.declared.config.NorJedecId.{NorJedecId}
 use Rattle.spi_nor.specs.declared.config.CapacityBytes.{CapacityBytes}
 use Rattle.spi_nor.specs.declared.config.NorDeviceInfo.{NorDeviceInfo}
@@ -113,7 +114,7 @@ inBoundsOf d =
 
 -- NorQuadConfig::W25Q128JV
 abbrev pub quadW25Q128JV : NorQuadConfig
-quadW25Q128JV = record { «tclqv_ns» = 8; «read_opcode» = 0x6B; «page_program_opcode» = 0x32; «dummy_margin» = 0 }
+quadW25Q128JV = record { «tclqv_ns» = 8; «read_opcode» = QUAD-READ; «page_program_opcode» = QUAD-PAGE-PROGRAM; «dummy_margin» = 0 }
 
 -- SpiNorConfig::single, and SpiNorConfig::default
 abbrev pub singleConfig : SpiNorConfig

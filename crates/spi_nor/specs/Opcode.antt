@@ -38,6 +38,13 @@ READ-ID = 0x9F
 abbrev pub READ-UNIQUE-ID : ℕ
 READ-UNIQUE-ID = 0x4B
 
+-- those of the Rust's NorQuadConfig::W25Q128JV
+abbrev pub QUAD-READ : ℕ
+QUAD-READ = 0x6B
+
+abbrev pub QUAD-PAGE-PROGRAM : ℕ
+QUAD-PAGE-PROGRAM = 0x32
+
 abbrev pub POLL-INTERVAL-US : ℕ
 POLL-INTERVAL-US = 100
 

@@ -1,4 +1,5 @@
 // Device parameters and quad configuration (nor/config.rs).
+use crate::opcode;
 ghost use mathlib.Core.Path.{_≡_};
 ghost use Rattle.spi_nor.specs.Config.{capacityBytesOf, fromJedec, inBoundsOf, quadW25Q128JV, singleConfig, quadConfig};
 
@@ -175,8 +176,8 @@ pub struct NorQuadConfig {
 impl NorQuadConfig {
     pub const W25Q128JV: Self = Self {
         tclqv_ns: 8,
-        read_opcode: 0x6B,
-        page_program_opcode: 0x32,
+        read_opcode: opcode::QUAD_READ,
+        page_program_opcode: opcode::QUAD_PAGE_PROGRAM,
         dummy_margin: 0,
     };
 

@@ -26,6 +26,11 @@ pub const READ_ID: u8 = 0x9F;
 // Followed by four dummy bytes.
 pub const READ_UNIQUE_ID: u8 = 0x4B;
 
+// Those of the Rust's NorQuadConfig::W25Q128JV.
+pub const QUAD_READ: u8 = 0x6B;
+
+pub const QUAD_PAGE_PROGRAM: u8 = 0x32;
+
 // Delay between two looks at the busy bit.
 pub const POLL_INTERVAL_US: u32 = 100;
 
