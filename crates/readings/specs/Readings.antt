@@ -7,8 +7,13 @@ use lib.Bits.{bitOr}
 use Rattle.qspi.specs.Command.{commandBytes}
 use Rattle.spi_flash.specs.WaitLaw.{largestSum, looks}
 use Rattle.spi_nor.specs.Command.{readCommand}
-use Rattle.spi_nor.specs.Config.{jedecId, w25q128jv, fromJedec}
+use Rattle.spi_nor.specs.Config.{jedecId, w25q128jv, fromJedec, singleConfig}
 use Rattle.spi_nor.specs.declared.config.NorDeviceInfo.{NorDeviceInfo}
+use Rattle.nor_driver.specs.Transfer.{stepKind, afterUnit}
+use Rattle.nor_driver.specs.Call.{freshSetup}
+use Rattle.nor_driver.specs.Bound.{delayBound}
+use Rattle.nor_driver.specs.declared.phase.EraseKind.{EraseKind}
+use Rattle.nor_driver.specs.declared.state.Call.{Call}
 use Rattle.spi_nand.specs.Opcode.{timingsOf}
 use Rattle.spi_nand.specs.Command.{pageReadCommand}
 use Rattle.spi_nand.specs.Status.{statusOf, verdictNumber, verdictOf, QUAD-ENABLE, BUFFER-READ, ECC-ENABLE, OPERATIONAL, configurationOf, configurationByte, withBits, protectionOf, isUnlocked}
@@ -83,6 +88,29 @@ norCode = reading (unknownNor 0x10 .capacity ∷ []) (65536 ∷ [])
 abbrev pub norFallback : Reading
 norFallback = reading (deviceNumbers (unknownNor 0x19)) (deviceNumbers w25q128jv)
 
+-- "NOR erase 0xF000 to 0x21000: sector, block, sector; bill 7,000,000": the kinds of its steps (0 sector, 1 block), where the
+-- last one ends, and the bound on its delay
+abbrev pub kindNumber : EraseKind → ℕ
+kindNumber EraseKind.Sector = 0
+kindNumber EraseKind.Block = 1
+
+abbrev pub stepFrom : ℕ → ℕ
+stepFrom address = afterUnit w25q128jv (stepKind w25q128jv address 0x21000) address
+
+abbrev pub kindFrom : ℕ → ℕ
+kindFrom address = kindNumber (stepKind w25q128jv address 0x21000)
+
+abbrev pub norErase : Reading
+norErase =
+    reading
+    (kindFrom 0xF000
+    ∷ kindFrom (stepFrom 0xF000)
+    ∷ kindFrom (stepFrom (stepFrom 0xF000))
+    ∷ stepFrom (stepFrom (stepFrom 0xF000))
+    ∷ delayBound (freshSetup singleConfig) (Call.Erase 0xF000 0x21000) 0
+    ∷ [])
+    (0 ∷ 1 ∷ 0 ∷ 0x21000 ∷ 7000000 ∷ [])
+
 -- "A program wait makes at most 26,663 looks, asking 400,005"
 abbrev pub programWait : Reading
 programWait =
@@ -101,6 +129,7 @@ readings =
     ∷ configuration
     ∷ norCode
     ∷ norFallback
+    ∷ norErase
     ∷ programWait
     ∷ loadWait
     ∷ []
