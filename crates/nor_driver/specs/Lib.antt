@@ -3,9 +3,3 @@ pub mod Next
 pub mod Step
 pub mod Call
 pub mod Answer
-pub mod Rust
-pub mod Program
-pub mod Bound
-pub mod ProgramBounds
-pub mod Run
-pub mod Promises

@@ -11,7 +11,7 @@ use Rattle.spi_nor.specs.Config.{jedecId, w25q128jv, fromJedec, singleConfig}
 use Rattle.spi_nor.specs.declared.config.NorDeviceInfo.{NorDeviceInfo}
 use Rattle.nor_driver.specs.Transfer.{stepKind, afterUnit}
 use Rattle.nor_driver.specs.Call.{freshSetup}
-use Rattle.nor_driver.specs.Bound.{delayBound}
+use Rattle.nor_runs.specs.Bound.{delayBound}
 use Rattle.nor_driver.specs.declared.phase.EraseKind.{EraseKind}
 use Rattle.nor_driver.specs.declared.state.Call.{Call}
 use Rattle.spi_nand.specs.Opcode.{timingsOf}

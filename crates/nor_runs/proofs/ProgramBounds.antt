@@ -1,8 +1,8 @@
 -- The bills of the calls' programs, their actions and their good ends.
 -- Assumes nothing.
-use Rattle.nor_driver.specs.ProgramBounds.{ProgramBounds}
-use Rattle.nor_driver.proofs.Bounds.{bounded, acts}
-use Rattle.nor_driver.proofs.Reaches.{ends, reached}
+use Rattle.nor_runs.specs.ProgramBounds.{ProgramBounds}
+use Rattle.nor_runs.proofs.Bounds.{bounded, acts}
+use Rattle.nor_runs.proofs.Reaches.{ends, reached}
 
 pub program-bounds : ProgramBounds
 program-bounds = record {

@@ -10,14 +10,14 @@ use Rattle.spi_flash.specs.Machine.{lentAs}
 use Rattle.spi_flash.specs.Run as Run
 use Rattle.spi_flash.specs.Run.{System}
 use Rattle.spi_flash.specs.declared.loan.Takes.{Takes}
 use Rattle.nor_driver.specs.Step.{Moved, stepOf}
 use Rattle.nor_driver.specs.Call.{beginOf}
-use Rattle.nor_driver.specs.Program.{Left, leaving}
+use Rattle.nor_runs.specs.Program.{Left, leaving}
 use Rattle.nor_driver.specs.declared.state.Call.{Call}
 use Rattle.nor_driver.specs.declared.state.Given.{Given}
 use Rattle.nor_driver.specs.declared.state.Running.{Running}
 use Rattle.nor_driver.specs.declared.state.SpiNorFlash.{SpiNorFlash}
 use Rattle.nor_driver.specs.declared.state.Stepped.{Stepped}
 
 -- what a step gives, with the bytes that an action shows and the driver that an end leaves behind
 abbrev pub givenAs : Given → SpiNorFlash → List ℕ → List ℕ → Run.Given Left

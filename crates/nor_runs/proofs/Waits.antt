@@ -12,8 +12,8 @@ use Rattle.spi_flash.proofs.Laws.{every-mono, every-both, bounded-more, ends-eq
 use Rattle.spi_nor.specs.Opcode.{timingsOf}
 use Rattle.spi_nor.specs.Command.{readStatus1Command}
 use Rattle.spi_nor.specs.WaitTable.{largestOf}
-use Rattle.nor_driver.specs.Bound.{waitActions}
-use Rattle.nor_driver.specs.Rust.{busyValue, wait-ready}
+use Rattle.nor_runs.specs.Bound.{waitActions}
+use Rattle.nor_runs.specs.Rust.{busyValue, wait-ready}
 use Rattle.spi_nor.specs.declared.opcode.Operation.{Operation}
 use Rattle.spi_nor.proofs.WaitTable.{wait-table}
 

@@ -7,11 +7,11 @@ use lib.ListN.{length}
 use Rattle.qspi.specs.Bytes.{AllBytes}
 use Rattle.spi_flash.specs.Loan.{Lent}
 use Rattle.spi_flash.specs.Run.{Event, Given, act, ended, failed, refused, delayAsked, Fitting, HasEnded, Answer, answering, Lending, runOf}
-use Rattle.nor_driver.specs.Bound.{delayBound, actionBound}
-use Rattle.nor_driver.specs.Program.{Left}
-use Rattle.nor_driver.specs.Run.{nor, takesOf}
+use Rattle.nor_runs.specs.Bound.{delayBound, actionBound}
+use Rattle.nor_runs.specs.Program.{Left}
+use Rattle.nor_runs.specs.Run.{nor, takesOf}
 use Rattle.nor_driver.specs.declared.state.Call.{Call}
 use Rattle.nor_driver.specs.declared.state.SpiNorFlash.{SpiNorFlash}
 
 -- a call has begun when it gives out its first action
 abbrev pub GivesAction : {A : Type 0} → Given A → Type 0

@@ -14,17 +14,17 @@ use Rattle.spi_flash.specs.Run.{Event, delayAsked, Fitting, HasEnded, Answer, a
 use Rattle.spi_flash.specs.Machine.{machine, out, trail}
 use Rattle.spi_flash.proofs.Runs.{first-delay, trail-asks, run-bound, run-ends}
 use Rattle.spi_flash.proofs.Reach.{reached}
-use Rattle.nor_driver.specs.Bound.{delayBound, actionBound}
-use Rattle.nor_driver.specs.Program.{Left, programOf}
-use Rattle.nor_driver.specs.ProgramBounds.{Begins, judgedSetup}
-use Rattle.nor_driver.specs.Run.{nor, takesOf}
-use Rattle.nor_driver.specs.Promises.{Begun, ComesTo, Demand3}
+use Rattle.nor_runs.specs.Bound.{delayBound, actionBound}
+use Rattle.nor_runs.specs.Program.{Left, programOf}
+use Rattle.nor_runs.specs.ProgramBounds.{Begins, judgedSetup}
+use Rattle.nor_runs.specs.Run.{nor, takesOf}
+use Rattle.nor_runs.specs.Promises.{Begun, ComesTo, Demand3}
 use Rattle.nor_driver.specs.declared.state.Call.{Call}
 use Rattle.nor_driver.specs.declared.state.Setup.{Setup}
 use Rattle.nor_driver.specs.declared.state.SpiNorFlash.{SpiNorFlash}
-use Rattle.nor_driver.proofs.ProgramBounds.{program-bounds}
-use Rattle.nor_driver.proofs.Simulation.{decideNext, meaning, Valid, simulates}
-use Rattle.nor_driver.proofs.Openings.{Opens, Nothing-begun, Judged, view}
+use Rattle.nor_runs.proofs.ProgramBounds.{program-bounds}
+use Rattle.nor_runs.proofs.Simulation.{decideNext, meaning, Valid, simulates}
+use Rattle.nor_runs.proofs.Openings.{Opens, Nothing-begun, Judged, view}
 
 -- ---- what is judged is what the program works on
 

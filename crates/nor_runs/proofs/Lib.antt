@@ -1,0 +1,11 @@
+pub mod Loops
+pub mod Waits
+pub mod Bounds
+pub mod Replies
+pub mod EraseSteps
+pub mod Reaches
+pub mod ProgramBounds
+pub mod Simulation
+pub mod Runs
+pub mod Openings
+pub mod Promises

@@ -1,0 +1,6 @@
+pub mod Rust
+pub mod Program
+pub mod Bound
+pub mod ProgramBounds
+pub mod Run
+pub mod Promises
