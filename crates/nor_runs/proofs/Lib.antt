@@ -9,3 +9,4 @@ pub mod Simulation
 pub mod Runs
 pub mod Openings
 pub mod Promises
+pub mod Refusals

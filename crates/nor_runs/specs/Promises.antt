@@ -5,8 +5,10 @@ use mathlib.Core.Path.{_≡_}
 use mathlib.Core.List.{List}
 use lib.ListN.{length}
 use Rattle.qspi.specs.Bytes.{AllBytes}
+use Rattle.qspi.specs.declared.bus.Reply.{Reply}
 use Rattle.spi_flash.specs.Loan.{Lent}
 use Rattle.spi_flash.specs.Run.{Event, Given, act, ended, failed, refused, delayAsked, Fitting, HasEnded, Answer, answering, Lending, runOf}
+use Rattle.spi_flash.specs.declared.error.FlashError.{FlashError}
 use Rattle.nor_runs.specs.Bound.{delayBound, actionBound}
 use Rattle.nor_runs.specs.Program.{Left}
 use Rattle.nor_runs.specs.Run.{nor, takesOf}
@@ -30,6 +32,14 @@ pub record ComesTo (flash : SpiNorFlash) (call : Call) (l : Lent) (b : ℕ) : Ty
       Fitting (runOf nor flash call l (answering replies ls))
   pub asks : (ls : List Lent) → length ls ≡ length replies → Lending (takesOf call l) (l .given) ls →
       delayAsked (runOf nor flash call l (answering replies ls)) ≡ b
+
+-- "keep every byte when a request is turned away": what is refused leaves the driver and every lent byte as they were, on every
+-- state, forged ones too
+pub record RefusalsKeep : Type 0 where
+  pub calls : (flash : SpiNorFlash) (call : Call) (l : Lent) (e : FlashError) → nor .begin flash call l .given ≡ refused e →
+      (nor .begin flash call l .flash ≡ flash) × (nor .begin flash call l .left ≡ l)
+  pub replies : (flash : SpiNorFlash) (r : Reply) (bytes : List ℕ) (l : Lent) (e : FlashError) → nor .answer flash r bytes l .given ≡ refused e →
+      (nor .answer flash r bytes l .flash ≡ flash) × (nor .answer flash r bytes l .left ≡ l)
 
 pub record Demand3 : Type 0 where
   -- "the delay summed over the actions given out is at most the call's bill in the documents"
