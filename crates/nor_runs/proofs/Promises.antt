@@ -112,10 +112,11 @@ comes-to flash c l small o =
     let r = reached Call decideNext takes (l .given) Valid meaning simulates (o .first) (o .at) (λ past end. asked delays past end ≡ bill) (o .valid) (path .reach) in
     record {
       replies = r .0;
-      fits = λ ls n w. rw (o .run (answering (r .0) ls)) (r .1 .fits ls n w);
+      real = r .1;
+      fits = λ ls n w. rw (o .run (answering (r .0) ls)) (r .2 .fits ls n w);
       asks = λ ls n w.
           rw (o .run (answering (r .0) ls))
-          (omega (arith, first-delay (o .first) (l .scratch) (l .given), trail-asks {C = Call} decideNext takes (o .at) (firstOf (o .first)) (answering (r .0) ls), r .1 .leads ls n w));
+          (omega (arith, first-delay (o .first) (l .scratch) (l .given), trail-asks {C = Call} decideNext takes (o .at) (firstOf (o .first)) (answering (r .0) ls), r .2 .leads ls n w));
     }
 
 -- ---- every call ends

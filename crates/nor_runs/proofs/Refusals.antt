@@ -64,8 +64,8 @@ unfolding Keeps proceedOf exchangeOf
 busy-kept flash job r bytes l =
     by-cases (readyOf (job .takes) (length (l .scratch)) (length (l .buffer)) (length (l .given)))
     (λ ready. by-cases (fitsOf (actionOf (job .frame)) r (length bytes))
-        (λ fits. rw (ready, fits) (goes (advancedOf (job .frame) r bytes (l .given))))
-        (λ fits. rw (ready, fits) (λ e h. (refl, refl))))
+    (λ fits. rw (ready, fits) (goes (advancedOf (job .frame) r bytes (l .given))))
+    (λ fits. rw (ready, fits) (λ e h. (refl, refl))))
     (λ ready. rw ready (λ e h. (refl, refl)))
   where
     goes : (x : Advanced) → Keeps flash l

@@ -7,7 +7,7 @@ use lib.ListN.{length}
 use Rattle.qspi.specs.Bytes.{AllBytes}
 use Rattle.qspi.specs.declared.bus.Reply.{Reply}
 use Rattle.spi_flash.specs.Loan.{Lent}
-use Rattle.spi_flash.specs.Run.{Event, Given, act, ended, failed, refused, delayAsked, Fitting, HasEnded, Answer, answering, Lending, runOf}
+use Rattle.spi_flash.specs.Run.{Event, Given, act, ended, failed, refused, delayAsked, Fitting, HasEnded, Answer, RealReplies, answering, Lending, runOf}
 use Rattle.spi_flash.specs.declared.error.FlashError.{FlashError}
 use Rattle.nor_runs.specs.Bound.{delayBound, actionBound}
 use Rattle.nor_runs.specs.Program.{Left}
@@ -28,6 +28,7 @@ Begun flash call l = GivesAction (nor .begin flash call l .given)
 -- replies, and that they come to b whatever scratch and buffer are lent with the caller's data
 pub record ComesTo (flash : SpiNorFlash) (call : Call) (l : Lent) (b : ℕ) : Type 0 where
   pub replies : List Answer
+  pub real : RealReplies replies
   pub fits : (ls : List Lent) → length ls ≡ length replies → Lending (takesOf call l) (l .given) ls →
       Fitting (runOf nor flash call l (answering replies ls))
   pub asks : (ls : List Lent) → length ls ≡ length replies → Lending (takesOf call l) (l .given) ls →

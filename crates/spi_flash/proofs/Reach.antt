@@ -19,7 +19,7 @@ use Rattle.spi_flash.specs.declared.loan.Takes.{Takes}
 use Rattle.spi_flash.specs.Loan.{Lent, readyFor}
 use Rattle.spi_flash.specs.Prog.{Prog, ret, fail, ask}
 use Rattle.spi_flash.specs.Path.{Past, back, End, going, done, failed, Some, Fits, Answers}
-use Rattle.spi_flash.specs.Run.{Event, Entry, goesOn, fittingThen, Fitting, endedThen, HasEnded, Answer, answering, Lending}
+use Rattle.spi_flash.specs.Run.{Event, Entry, goesOn, fittingThen, Fitting, endedThen, HasEnded, Answer, RealReplies, answering, Lending}
 use Rattle.spi_flash.specs.Machine.{Decision, more, well, bad, Config, out, rest, settle, machine, tree, Onward, Simulates, Trail, decidedTrail, trail}
 
 -- ---- the values of a path, to the call's end
@@ -118,6 +118,17 @@ module _ (C : Type 0) {S A : Type 0} (next : S → Outcome → Decision S A) (ta
   repliesTo (Transfer.QuadRead c q m n sink) v h = ok ∷ got (h .bytes) ∷ ok ∷ []
   repliesTo (Transfer.QuadWrite c p) v h = ok ∷ ok ∷ ok ∷ []
 
+  -- they are replies that a host can give
+  replies-real : (t : Transfer) (v : ℕ) (h : Fits given t v) (rs : List Answer) → RealReplies rs → RealReplies (repliesTo t v h ++ rs)
+  unfolding repliesTo ok got
+  replies-real Transfer.Raise v h rs r = (tt, r)
+  replies-real (Transfer.Pause us) v h rs r = (tt, r)
+  replies-real (Transfer.Send c) v h rs r = (tt, (tt, (tt, r)))
+  replies-real (Transfer.Read c n sink) v h rs r = (tt, (tt, (h .small, (tt, r))))
+  replies-real (Transfer.Write c p) v h rs r = (tt, (tt, (tt, (tt, r))))
+  replies-real (Transfer.QuadRead c q m n sink) v h rs r = (tt, (h .small, (tt, r)))
+  replies-real (Transfer.QuadWrite c p) v h rs r = (tt, (tt, (tt, r)))
+
   module _ (s : S) (Q : List Past → End A → Type 0) (rs : List Answer) where
     -- the transfer's value is v, and the call goes on to Q
     abbrev GoesOn : Transfer → ℕ → Type 0
@@ -175,21 +186,21 @@ module _ (C : Type 0) {S A : Type 0} (next : S → Outcome → Decision S A) (ta
 
   module _ (Valid : S → Type 0) (meaning : S → ℕ → Prog A) (sim : Simulates Valid next meaning) where
     -- the replies of a whole path
-    decides : (vs : List ℕ) (d : Decision S A) (Q : List Past → End A → Type 0) → Onward Valid d → Along given (tree meaning d) vs Q → (rs : List Answer) × Decides d Q rs
-    decides [] (well a) Q w h = ([], record { fits = λ l ls n i. tt; ends = λ l ls n i. tt; leads = λ ls n i. h })
-    decides [] (bad e) Q w h = ([], record { fits = λ l ls n i. tt; ends = λ l ls n i. tt; leads = λ ls n i. h })
+    decides : (vs : List ℕ) (d : Decision S A) (Q : List Past → End A → Type 0) → Onward Valid d → Along given (tree meaning d) vs Q → (rs : List Answer) × RealReplies rs × Decides d Q rs
+    decides [] (well a) Q w h = ([], tt, record { fits = λ l ls n i. tt; ends = λ l ls n i. tt; leads = λ ls n i. h })
+    decides [] (bad e) Q w h = ([], tt, record { fits = λ l ls n i. tt; ends = λ l ls n i. tt; leads = λ ls n i. h })
     decides [] (more t s) Q w h = absurd h
     decides (v ∷ vs) (well a) Q w h = absurd h
     decides (v ∷ vs) (bad e) Q w h = absurd h
     decides (v ∷ vs) (more t s) Q w h =
         let Q′ : List Past → End A → Type 0 = λ past end. Q (back t (Outcome.Value v) ∷ past) end in
         let r = decides vs (next s (Outcome.Value v)) Q′ (sim .keeps s v w) (subst (λ p. Along given p vs Q′) (sim .onValue s v w) (h .1)) in
-        let b = transferred s Q (r .0) t v (h .0) (r .1) in
-        (repliesTo t v (h .0) ++ r .0, record { fits = λ l ls n i. b .fits ls n i; ends = λ l ls n i. b .ends ls n i; leads = λ ls n i. b .leads ls n i })
+        let b = transferred s Q (r .0) t v (h .0) (r .2) in
+        (repliesTo t v (h .0) ++ r .0, replies-real t v (h .0) (r .0) (r .1), record { fits = λ l ls n i. b .fits ls n i; ends = λ l ls n i. b .ends ls n i; leads = λ ls n i. b .leads ls n i })
 
-    pub reached : (t : Transfer) (s : S) (Q : List Past → End A → Type 0) → Valid s → Some given (ask t (meaning s)) Q → (rs : List Answer) × Brings s (firstOf t) Q rs
+    pub reached : (t : Transfer) (s : S) (Q : List Past → End A → Type 0) → Valid s → Some given (ask t (meaning s)) Q → (rs : List Answer) × RealReplies rs × Brings s (firstOf t) Q rs
     reached t s Q w h =
         let vs = some-along given (ask t (meaning s)) Q h in
         let r = decides (vs .0) (more t s) Q w (vs .1) in
         let l : Lent = record { scratch = []; buffer = []; given = [] } in
-        (r .0, record { fits = λ ls n i. r .1 .fits l ls n i; ends = λ ls n i. r .1 .ends l ls n i; leads = λ ls n i. r .1 .leads ls n i })
+        (r .0, r .1, record { fits = λ ls n i. r .2 .fits l ls n i; ends = λ ls n i. r .2 .ends l ls n i; leads = λ ls n i. r .2 .leads ls n i })

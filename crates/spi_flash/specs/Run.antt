@@ -5,6 +5,7 @@ use mathlib.Core.Bool.{Bool, true, false}
 use mathlib.Core.Path.{_≡_}
 use mathlib.Core.List.{List, [], _∷_}
 use Rattle.qspi.specs.Choice.{pick}
+use Rattle.qspi.specs.Bytes.{AllBytes}
 use Rattle.qspi.specs.Shown.{Shown, delayOf}
 use Rattle.qspi.specs.declared.bus.Reply.{Reply}
 use Rattle.spi_flash.specs.declared.error.FlashError.{FlashError}
@@ -99,6 +100,11 @@ HasEnded (x ∷ xs) = endedThen (x .given) (HasEnded xs)
 pub record Answer : Type 0 where
   pub kind : Reply
   pub bytes : List ℕ
+
+-- replies that a host can give: bytes
+abbrev pub RealReplies : List Answer → Type 0
+RealReplies [] = Unit {0}
+RealReplies (a ∷ rest) = AllBytes (a .bytes) × RealReplies rest
 
 abbrev pub answering : {C : Type 0} → List Answer → List Lent → List (Event C)
 answering [] ls = []
