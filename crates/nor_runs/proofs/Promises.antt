@@ -9,21 +9,26 @@ use Rattle.qspi.specs.Bytes.{AllBytes}
 use Rattle.qspi.specs.Frame.{firstOf}
 use Rattle.spi_flash.specs.Loan.{Lent}
 use Rattle.spi_flash.specs.Prog.{Prog, ask}
-use Rattle.spi_flash.specs.Path.{delays, actions, asked, Bounded, Reaches}
-use Rattle.spi_flash.specs.Run.{Event, delayAsked, Fitting, HasEnded, Answer, answering, Lending, goesOn, runOf}
-use Rattle.spi_flash.specs.Machine.{machine, out, trail}
-use Rattle.spi_flash.proofs.Runs.{first-delay, trail-asks, run-bound, run-ends}
+use Rattle.qspi.specs.Frame.{exchangeOf}
+use Rattle.qspi.specs.declared.frame.Exchanged.{Exchanged}
+use Rattle.qspi.specs.declared.frame.Frame.{Frame}
+use Rattle.spi_flash.specs.Path.{Past, End, going, done, failed, spent, delays, actions, asked, Well, Bounded, Reaches, Ends}
+use Rattle.spi_flash.specs.Run as Run
+use Rattle.spi_flash.specs.declared.loan.Takes.{Takes}
+use Rattle.spi_flash.specs.Run.{Event, reply, call, delayAsked, Fitting, HasEnded, Answer, answering, Lending, goesOn, runOf}
+use Rattle.spi_flash.specs.Machine.{Decision, more, well, bad, Config, machine, out, lentAs, settle, moved, Trail, decidedTrail, heardTrail, trail}
+use Rattle.spi_flash.proofs.Runs.{heard-view, first-delay, trail-asks, run-bound, run-ends}
 use Rattle.spi_flash.proofs.Reach.{reached}
 use Rattle.nor_runs.specs.Bound.{delayBound, actionBound}
 use Rattle.nor_runs.specs.Program.{Left, programOf}
-use Rattle.nor_runs.specs.ProgramBounds.{Begins, judgedSetup}
+use Rattle.nor_runs.specs.ProgramBounds.{Begins, CanEnd, judgedSetup}
 use Rattle.nor_runs.specs.Run.{nor, takesOf}
-use Rattle.nor_runs.specs.Promises.{Begun, ComesTo, Demand3}
+use Rattle.nor_runs.specs.Promises.{Begun, ComesTo, answeredThen, EndsWith, EndsWell, Demand3}
 use Rattle.nor_driver.specs.declared.state.Call.{Call}
 use Rattle.nor_driver.specs.declared.state.Setup.{Setup}
 use Rattle.nor_driver.specs.declared.state.SpiNorFlash.{SpiNorFlash}
 use Rattle.nor_runs.proofs.ProgramBounds.{program-bounds}
-use Rattle.nor_runs.proofs.Simulation.{decideNext, meaning, Valid, simulates}
+use Rattle.nor_runs.proofs.Simulation.{Place, decideNext, meaning, Valid, simulates}
 use Rattle.nor_runs.proofs.Openings.{Opens, Nothing-begun, Judged, view}
 
 -- ---- what is judged is what the program works on
@@ -130,9 +135,68 @@ run-has-ended flash c l es o fit long =
     (subst (Bounded actions (actionBound (flash .setup) c (length (l .buffer)) (length (l .given)))) (o .program) (acting-program (flash .setup) c (o .judged) (length (l .buffer)) (length (l .given))))
     es (rw (o .run es) at fit) long)
 
+-- ---- and ends well on some replies
+
+-- where the path of a run has ended well, the run has ended with that answer
+IsDone : Left → End Left → Type 0
+IsDone a (going t) = ⊥
+IsDone a (done b) = b ≡ a
+IsDone a (failed e) = ⊥
+
+module _ (k : Takes) (a : Left) where
+  abbrev after : Run.Moved (Config Place) Left → List (Event Call) → Type 0
+  after m es = answeredThen (m .given) a (EndsWith a (goesOn (machine decideNext Call) (m .flash) es))
+
+  settled-ends : (es : List (Event Call)) → ((s : Place) (f : Frame) → IsDone a (trail decideNext k s f es .stop) → EndsWith a (goesOn (machine decideNext Call) (out k s f) es)) →
+      (d : Decision Place Left) (l : Lent) → IsDone a (decidedTrail d (λ t s. trail decideNext k s (firstOf t) es) .stop) → after (settle k d l) es
+  unfolding IsDone firstOf
+  settled-ends es ih (more t s) l h = ih s (firstOf t) h
+  settled-ends es ih (well b) l h = h
+  settled-ends es ih (bad e) l h = absurd h
+
+  ends-with : (s : Place) (f : Frame) (es : List (Event Call)) → IsDone a (trail decideNext k s f es .stop) → EndsWith a (goesOn (machine decideNext Call) (out k s f) es)
+  unfolding IsDone EndsWith goesOn trail
+  ends-with s f [] h = absurd h
+  ends-with s f (call c l ∷ es) h = ends-with s f es h
+  ends-with s f (reply r bytes l ∷ es) h =
+      let x = exchangeOf f r bytes (l .scratch) (l .buffer) (l .given) in
+      let onward : Exchanged → Trail Left = λ y. heardTrail decideNext s f y (λ g. trail decideNext k s g es) (λ t s′. trail decideNext k s′ (firstOf t) es) in
+      heard-view k f r bytes l
+      (λ y. IsDone a (onward y .stop) → after (moved decideNext k s f y l (x .scratch) (x .buffer)) es)
+      (λ i. ends-with s f es i)
+      (λ g e i. ends-with s g es i)
+      (λ o i. settled-ends es (λ s′ g j. ends-with s′ g es j) (decideNext s o) (lentAs (x .scratch) (x .buffer) l) i)
+      h
+
+well-done : (a : Left) (b : ℕ) (past : List Past) (end : End Left) → Well (λ x xs. (x ≡ a) × (spent delays xs ≡ b)) past end → IsDone a end
+unfolding IsDone
+well-done a b past (going t) h = h
+well-done a b past (done x) h = h .0
+well-done a b past (failed e) h = h
+
+comes-well : (flash : SpiNorFlash) (c : Call) (l : Lent) → AllBytes (l .given) → CanEnd c → Opens flash c l → EndsWell flash c l
+unfolding EndsWith
+comes-well flash c l small can o =
+    let s = flash .setup in
+    let b = length (l .buffer) in
+    let d = length (l .given) in
+    let e = program-bounds .endsWell (judgedSetup s c) (o .judged) c b (l .given) small (same s c .begins b d (o .begins)) can in
+    let path : Ends (l .given) delays (e .0) (e .1) (ask (o .first) (meaning (o .at))) =
+    subst (Ends (l .given) delays (e .0) (e .1)) (same s c .program b d ∙ o .program) (e .2) in
+    let r = reached Call decideNext (takesOf c l) (l .given) Valid meaning simulates (o .first) (o .at) (Well (λ x xs. (x ≡ e .1) × (spent delays xs ≡ e .0))) (o .valid) (path .ends) in
+    record {
+      left = e .1;
+      replies = r .0;
+      real = r .1;
+      ends = λ ls n w.
+          rw (o .run (answering (r .0) ls))
+          (ends-with (takesOf c l) (e .1) (o .at) (firstOf (o .first)) (answering (r .0) ls) (well-done (e .1) (e .0) _ _ (r .2 .leads ls n w)));
+    }
+
 pub demand3 : Demand3
 demand3 = record {
   bounded = never-passed;
   reached = λ flash c l small h. comes-to flash c l small (begun-opens flash c l h);
   ends = λ flash c l es h fit long. run-has-ended flash c l es (begun-opens flash c l h) fit long;
+  endsWell = λ flash c l small h can. comes-well flash c l small can (begun-opens flash c l h);
 }

@@ -2,15 +2,16 @@
 -- begun meanwhile among them, every event with lent bytes of its own.
 use Prim.Native.Nat.{ℕ, _≤_}
 use mathlib.Core.Path.{_≡_}
-use mathlib.Core.List.{List}
+use mathlib.Core.List.{List, [], _∷_}
 use lib.ListN.{length}
 use Rattle.qspi.specs.Bytes.{AllBytes}
 use Rattle.qspi.specs.declared.bus.Reply.{Reply}
 use Rattle.spi_flash.specs.Loan.{Lent}
-use Rattle.spi_flash.specs.Run.{Event, Given, act, ended, failed, refused, delayAsked, Fitting, HasEnded, Answer, RealReplies, answering, Lending, runOf}
+use Rattle.spi_flash.specs.Run.{Event, Entry, Given, act, ended, failed, refused, delayAsked, Fitting, HasEnded, Answer, RealReplies, answering, Lending, runOf}
 use Rattle.spi_flash.specs.declared.error.FlashError.{FlashError}
 use Rattle.nor_runs.specs.Bound.{delayBound, actionBound}
 use Rattle.nor_runs.specs.Program.{Left}
+use Rattle.nor_runs.specs.ProgramBounds.{CanEnd}
 use Rattle.nor_runs.specs.Run.{nor, takesOf}
 use Rattle.nor_driver.specs.declared.state.Call.{Call}
 use Rattle.nor_driver.specs.declared.state.SpiNorFlash.{SpiNorFlash}
@@ -42,6 +43,25 @@ pub record RefusalsKeep : Type 0 where
   pub replies : (flash : SpiNorFlash) (r : Reply) (bytes : List ℕ) (l : Lent) (e : FlashError) → nor .answer flash r bytes l .given ≡ refused e →
       (nor .answer flash r bytes l .flash ≡ flash) × (nor .answer flash r bytes l .left ≡ l)
 
+-- the call has ended with that answer, leaving that driver
+abbrev pub answeredThen : Given Left → Left → Type 0 → Type 0
+answeredThen (act shown) a later = later
+answeredThen (ended b) a later = b ≡ a
+answeredThen (failed e) a later = ⊥
+answeredThen (refused e) a later = later
+
+unfoldable pub EndsWith : Left → List (Entry Call Left) → Type 0
+EndsWith a [] = ⊥
+EndsWith a (x ∷ xs) = answeredThen (x .given) a (EndsWith a xs)
+
+-- replies on which the call ends well
+pub record EndsWell (flash : SpiNorFlash) (call : Call) (l : Lent) : Type 0 where
+  pub left : Left
+  pub replies : List Answer
+  pub real : RealReplies replies
+  pub ends : (ls : List Lent) → length ls ≡ length replies → Lending (takesOf call l) (l .given) ls →
+      EndsWith left (runOf nor flash call l (answering replies ls))
+
 pub record Demand3 : Type 0 where
   -- "the delay summed over the actions given out is at most the call's bill in the documents"
   pub bounded : (flash : SpiNorFlash) (call : Call) (l : Lent) (es : List (Event Call)) →
@@ -53,3 +73,5 @@ pub record Demand3 : Type 0 where
   pub ends : (flash : SpiNorFlash) (call : Call) (l : Lent) (es : List (Event Call)) → Begun flash call l →
       Fitting (runOf nor flash call l es) → actionBound (flash .setup) call (length (l .buffer)) (length (l .given)) ≤ length es →
       HasEnded (runOf nor flash call l es)
+  -- every begun call ends well on some replies, but a construction with a page above 512
+  pub endsWell : (flash : SpiNorFlash) (call : Call) (l : Lent) → AllBytes (l .given) → Begun flash call l → CanEnd call → EndsWell flash call l
