@@ -6,3 +6,5 @@ pub mod Giving
 pub mod Waiting
 pub mod Runs
 pub mod Reach
+pub mod OnBus
+pub mod Performs

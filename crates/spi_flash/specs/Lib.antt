@@ -7,3 +7,5 @@ pub mod Path
 pub mod WaitLaw
 pub mod Run
 pub mod Machine
+pub mod Seen
+pub mod OnBus
