@@ -5,6 +5,8 @@ pub mod Replies
 pub mod EraseSteps
 pub mod Reaches
 pub mod ProgramBounds
+pub mod Places
+pub mod Keeps
 pub mod Simulation
 pub mod Runs
 pub mod Openings

@@ -41,7 +41,9 @@ use Rattle.nor_driver.specs.declared.state.Setup.{Setup}
 use Rattle.nor_driver.specs.declared.state.SpiNorFlash.{SpiNorFlash}
 use Rattle.nor_driver.specs.declared.state.Then.{Then}
 use Rattle.nor_runs.proofs.Loops.{erasing-loop}
-use Rattle.nor_runs.proofs.Simulation.{Place, place, decide, decideNext, meaning, Valid, then-assoc, starts, reads-on, writes-on, erases-unit, erases-on, keeps-read, keeps-program, keeps-unit, keeps-erase, keeps-pick, beginnings}
+use Rattle.nor_runs.proofs.Places.{Place, place, decide, decideNext, Valid, Built}
+use Rattle.nor_runs.proofs.Keeps.{keeps-read, keeps-program, keeps-unit, keeps-erase, keeps-pick}
+use Rattle.nor_runs.proofs.Simulation.{meaning, then-assoc, starts, reads-on, writes-on, erases-unit, erases-on, beginnings}
 use Rattle.nor_runs.proofs.Runs.{configOf, runs-same}
 
 -- ---- the Rust's tests before the bus

@@ -28,7 +28,8 @@ use Rattle.nor_driver.specs.declared.state.Call.{Call}
 use Rattle.nor_driver.specs.declared.state.Setup.{Setup}
 use Rattle.nor_driver.specs.declared.state.SpiNorFlash.{SpiNorFlash}
 use Rattle.nor_runs.proofs.ProgramBounds.{program-bounds}
-use Rattle.nor_runs.proofs.Simulation.{Place, decideNext, meaning, Valid, simulates}
+use Rattle.nor_runs.proofs.Places.{Place, decideNext, Valid}
+use Rattle.nor_runs.proofs.Simulation.{meaning, simulates}
 use Rattle.nor_runs.proofs.Openings.{Opens, Nothing-begun, Judged, view}
 
 -- ---- what is judged is what the program works on
@@ -165,7 +166,7 @@ module _ (k : Takes) (a : Left) where
       (λ y. IsDone a (onward y .stop) → after (moved decideNext k s f y l (x .scratch) (x .buffer)) es)
       (λ i. ends-with s f es i)
       (λ g e i. ends-with s g es i)
-      (λ o i. settled-ends es (λ s′ g j. ends-with s′ g es j) (decideNext s o) (lentAs (x .scratch) (x .buffer) l) i)
+      (λ o c i. settled-ends es (λ s′ g j. ends-with s′ g es j) (decideNext s o) (lentAs (x .scratch) (x .buffer) l) i)
       h
 
 well-done : (a : Left) (b : ℕ) (past : List Past) (end : End Left) → Well (λ x xs. (x ≡ a) × (spent delays xs ≡ b)) past end → IsDone a end

@@ -31,7 +31,7 @@ use Rattle.nor_driver.specs.declared.state.Running.{Running}
 use Rattle.nor_driver.specs.declared.state.Setup.{Setup}
 use Rattle.nor_driver.specs.declared.state.SpiNorFlash.{SpiNorFlash}
 use Rattle.nor_driver.specs.declared.state.Then.{Then}
-use Rattle.nor_runs.proofs.Simulation.{Place, place, decide, decideNext}
+use Rattle.nor_runs.proofs.Places.{Place, place, decide, decideNext}
 
 -- a driver as the machine sees it
 abbrev pub configAt : Running → Setup → Config Place

@@ -1,39 +1,31 @@
 -- The driver's phases do what the Rust's calls do.
-use Prim.Native.Nat.{ℕ, _+_, _-_, _≤_, _<_}
+use Prim.Native.Nat.{ℕ, _+_, _-_}
 use native.Mathlib.Omega.{arith}
 use mathlib.Core.Bool.{Bool, true, false, not}
 use mathlib.Core.Path.{_≡_, refl, ap, sym, _∙_, fun-ext}
 use lib.Dec.{ltb, leb, eqb}
 use borrow.Author.Tests.{leb-true, leb-false, le-leb, le-ltb, lt-ltb}
-use Rattle.qspi.specs.Choice.{pick}
-use Rattle.qspi.specs.declared.frame.Outcome.{Outcome}
-use Rattle.qspi.specs.declared.transfer.Sink.{Sink}
 use Rattle.qspi.specs.declared.transfer.Transfer.{Transfer}
-use Rattle.spi_flash.specs.Prog.{Prog, ret, fail, ask, _>>=_, _>>_, if_then_else_, refuse, transfer}
+use Rattle.spi_flash.specs.Prog.{Prog, ret, fail, ask, if_then_else_, _>>=_, _>>_, refuse, transfer}
 use Rattle.spi_flash.specs.Wait.{firstWait, nextWait, u32Max, saturatingAdd}
-use Rattle.spi_flash.specs.WaitLaw.{lookAt, waiting, promptWait, WaitLoop}
-use Rattle.spi_flash.specs.Machine.{Decision, more, well, bad, tree, Onward, Simulates}
+use Rattle.spi_flash.specs.WaitLaw.{waiting, promptWait}
+use Rattle.spi_flash.specs.Machine.{more, tree, Simulates}
 use Rattle.spi_flash.specs.declared.error.FlashError.{FlashError}
-use Rattle.spi_flash.specs.declared.wait.Timings.{Timings}
 use Rattle.spi_flash.specs.declared.wait.Wait.{Wait}
 use Rattle.spi_flash.proofs.Cases.{by-cases}
 use Rattle.spi_flash.proofs.Waiting.{wait-in-general}
 use Rattle.spi_nor.specs.Opcode.{timingsOf}
 use Rattle.spi_nor.specs.Status.{busyOf, writeEnabledOf, quadEnabled1Of, quadEnabled2Of, withQuad1Of, withQuad2Of, withoutQuad1Of, withoutQuad2Of, unprotected1Of, unprotected2Of}
 use Rattle.spi_nor.specs.Command.{writeEnableCommand, readStatus1Command, readStatus2Command, readIdCommand, readUniqueIdCommand}
-use Rattle.nor_driver.specs.Transfer.{numberTransfer, placeOf, chunkOf, pageOf, readTransfer, taskTransfer, taskOperation, inRange, multipleOf, unitSize, stepKind, afterUnit}
-use Rattle.nor_driver.specs.Next.{byteOf, idOf, deviceAt, deviceFor, knownAs, builtThen, readFrom, programFrom, verifyThen, verifiedThen, latchedThen, eraseUnit, eraseFrom, unprotectFirst, unprotectSecond, resumeTask, waitThen, identifiedThen, afterPhase, nextOf}
-use Rattle.nor_runs.specs.Rust.{Nothing, busyValue, read-status1, read-status2, is-busy, wait-ready, write-enable, write-status1, write-status2, jedec-id, unique-id, quad-enabled, enable-quad, disable-quad, reading, read, read-back, page-program, writing, write, erase-unit, erasing, erase, Unprotected, unprotect, quad-if, with-config}
+use Rattle.nor_driver.specs.Transfer.{numberTransfer, placeOf, chunkOf, pageOf, taskTransfer, taskOperation, inRange, multipleOf, unitSize, stepKind, afterUnit}
+use Rattle.nor_driver.specs.Next.{byteOf, idOf, knownAs, builtThen, readFrom, programFrom, verifyThen, verifiedThen, latchedThen, eraseUnit, eraseFrom, unprotectFirst, unprotectSecond, resumeTask, waitThen, identifiedThen, afterPhase, nextOf}
+use Rattle.nor_runs.specs.Rust.{Nothing, busyValue, read-status1, read-status2, is-busy, wait-ready, write-enable, write-status1, write-status2, jedec-id, unique-id, quad-enabled, enable-quad, disable-quad, reading, read-back, page-program, writing, write, erase-unit, erasing, Unprotected, unprotect, quad-if, with-config}
 use Rattle.nor_driver.specs.Call.{freshSetup}
-use Rattle.nor_runs.specs.Program.{Left, leaving, programOf}
-use Rattle.spi_nor.specs.WaitTable.{WaitTable}
-use Rattle.spi_nor.specs.Config.{inBoundsOf, fromJedec}
+use Rattle.nor_runs.specs.Program.{Left, leaving}
+use Rattle.spi_nor.specs.Config.{inBoundsOf}
 use Rattle.spi_nor.proofs.WaitTable.{wait-table}
 use Rattle.spi_nor.proofs.DeviceBounds.{deviceBounds}
 use Rattle.nor_runs.proofs.Loops.{reading-loop, writing-loop, erasing-loop}
-use Rattle.spi_nor.specs.declared.config.DeviceSetting.{DeviceSetting}
-use Rattle.spi_nor.specs.declared.config.NorDeviceInfo.{NorDeviceInfo}
-use Rattle.spi_nor.specs.declared.config.NorJedecId.{NorJedecId}
 use Rattle.spi_nor.specs.declared.config.QuadSetting.{QuadSetting}
 use Rattle.spi_nor.specs.declared.config.SpiNorConfig.{SpiNorConfig}
 use Rattle.nor_driver.specs.declared.phase.EraseKind.{EraseKind}
@@ -41,24 +33,9 @@ use Rattle.nor_driver.specs.declared.phase.Phase.{Phase}
 use Rattle.nor_driver.specs.declared.phase.Task.{Task}
 use Rattle.nor_driver.specs.declared.state.Answer.{Answer}
 use Rattle.nor_driver.specs.declared.state.Setup.{Setup}
-use Rattle.nor_driver.specs.declared.state.Then.{Then}
 use Rattle.spi_nor.specs.declared.opcode.Operation.{Operation}
-
--- where a call stands, with what the driver holds
-pub record Place : Type 0 where
-  pub setup : Setup
-  pub phase : Phase
-
-abbrev pub place : Setup → Phase → Place
-place setup phase = record { setup = setup; phase = phase }
-
-abbrev pub decide : Then → Decision Place Left
-decide (Then.Go setup t phase) = more t (place setup phase)
-decide (Then.End setup answer) = well (leaving setup answer)
-decide (Then.Fail error) = bad error
-
-abbrev pub decideNext : Place → Outcome → Decision Place Left
-decideNext s o = decide (nextOf (s .setup) (s .phase) o)
+use Rattle.nor_runs.proofs.Places.{Place, place, decide, decideNext, Valid}
+use Rattle.nor_runs.proofs.Keeps.{keeps}
 
 -- ---- what the Rust still does
 
@@ -440,9 +417,6 @@ identifies s v =
 
 -- ---- every phase
 
-abbrev pub Valid : Place → Type 0
-Valid s = inBoundsOf (s .setup .device) ≡ true
-
 follows : (s : Setup) → inBoundsOf (s .device) ≡ true → (phase : Phase) (v : ℕ) → meaningAt s phase v ≡ tree meaning (decide (afterPhase s phase v))
 unfolding meaningAt afterPhase reread told _>>=_ _>>_
 follows s valid Phase.Raised v = refl
@@ -474,117 +448,6 @@ follows s valid (Phase.Latching task) v = latches s task v
 follows s valid (Phase.Sending task) v = sent s valid task v
 follows s valid (Phase.Looking task waited) v = looks s valid task waited v
 follows s valid (Phase.Pausing task waited) v = waits s task waited
-
--- a detected device is within the bounds, and the caller's own was judged when the call began
-keeps-device : (setting : DeviceSetting) (device : NorDeviceInfo) (id : NorJedecId) → inBoundsOf device ≡ true → inBoundsOf (deviceAt setting device id) ≡ true
-keeps-device DeviceSetting.Detect device id h = deviceBounds .accepts (fromJedec id) (deviceBounds .detected id)
-keeps-device (DeviceSetting.Given own) device id h = h
-
--- a test between two ways of going on
-pub keeps-pick : (b : Bool) (x y : Then) → Onward Valid (decide x) → Onward Valid (decide y) → Onward Valid (decide (pick b x y))
-keeps-pick true x y h k = h
-keeps-pick false x y h k = k
-
-module _ (s : Setup) (valid : inBoundsOf (s .device) ≡ true) where
-  keeps-latched : (task : Task) (b : ℕ) → Onward Valid (decide (latchedThen s task b))
-  unfolding latchedThen
-  keeps-latched task b = keeps-pick (writeEnabledOf b) _ _ valid tt
-
-  pub keeps-read : (offset len done : ℕ) → Onward Valid (decide (readFrom s offset len done))
-  unfolding readFrom
-  keeps-read offset len done = keeps-pick (ltb done len) _ _ valid tt
-
-  pub keeps-program : (offset len done : ℕ) → Onward Valid (decide (programFrom s offset len done))
-  unfolding programFrom
-  keeps-program offset len done = keeps-pick (ltb done len) _ _ valid tt
-
-  keeps-verify : (offset len done : ℕ) → Onward Valid (decide (verifyThen s offset len done))
-  unfolding verifyThen
-  keeps-verify offset len done = keeps-pick (inRange (s .device .capacity) (placeOf offset done) (pageOf (s .device) len done)) _ _ valid tt
-
-  keeps-verified : (offset len done v : ℕ) → Onward Valid (decide (verifiedThen s offset len done v))
-  unfolding verifiedThen
-  keeps-verified offset len done v = keeps-pick (eqb v 0) _ _ tt (keeps-program offset len (done + pageOf (s .device) len done))
-
-  pub keeps-unit : (kind : EraseKind) (address end : ℕ) → Onward Valid (decide (eraseUnit s kind address end))
-  unfolding eraseUnit
-  keeps-unit kind address end =
-      keeps-pick (inRange (s .device .capacity) address (unitSize (s .device) kind)) _ _
-      (keeps-pick (multipleOf address (unitSize (s .device) kind)) _ _ valid tt) tt
-
-  pub keeps-erase : (address end : ℕ) → Onward Valid (decide (eraseFrom s address end))
-  unfolding eraseFrom
-  keeps-erase address end = keeps-pick (ltb address end) _ _ (keeps-unit (stepKind (s .device) address end) address end) tt
-
-  keeps-second : (before status2 : ℕ) → Onward Valid (decide (unprotectSecond s before status2))
-  unfolding unprotectSecond
-  keeps-second before status2 = keeps-pick (eqb (unprotected2Of status2) status2) _ _ valid valid
-
-  keeps-first : (before status2 : ℕ) → Onward Valid (decide (unprotectFirst s before status2))
-  unfolding unprotectFirst
-  keeps-first before status2 = keeps-pick (eqb (unprotected1Of before) before) _ _ (keeps-second before status2) valid
-
-  keeps-task : (task : Task) → Onward Valid (decide (resumeTask s task))
-  unfolding resumeTask
-  keeps-task (Task.EnableQuad2 x) = valid
-  keeps-task (Task.EnableQuad1 x) = valid
-  keeps-task (Task.DisableQuad2 x) = valid
-  keeps-task (Task.DisableQuad1 x) = valid
-  keeps-task (Task.Unprotect1 before status2) = keeps-second before status2
-  keeps-task (Task.Unprotect2 before status2) = valid
-  keeps-task (Task.PageProgram offset len done) = keeps-verify offset len done
-  keeps-task (Task.Erase kind address end) = keeps-erase (afterUnit (s .device) kind address) end
-
-  keeps-wait : (task : Task) (w : Wait) → Onward Valid (decide (waitThen s task w))
-  unfolding waitThen
-  keeps-wait task Wait.Look = valid
-  keeps-wait task (Wait.Pause us waited) = valid
-  keeps-wait task Wait.Ready = keeps-task task
-  keeps-wait task Wait.Timeout = tt
-
-  keeps-known : (v : ℕ) → inBoundsOf (knownAs s v .device) ≡ true
-  unfolding deviceFor
-  keeps-known v = keeps-device (s .config .device) (s .device) (idOf v) valid
-
-  keeps-quad : (quad : QuadSetting) (v : ℕ) → Onward Valid (decide (builtThen quad (knownAs s v)))
-  keeps-quad QuadSetting.Single v = tt
-  keeps-quad (QuadSetting.Quad q) v = keeps-known v
-
-  keeps-identified : (v : ℕ) → Onward Valid (decide (identifiedThen s v))
-  unfolding identifiedThen
-  keeps-identified v = keeps-pick (leb (deviceFor s (idOf v) .«page_size») 512) _ _ (keeps-quad (s .config .quad) v) tt
-
-  keeps : (phase : Phase) (v : ℕ) → Onward Valid (decide (afterPhase s phase v))
-  unfolding afterPhase
-  keeps Phase.Raised v = valid
-  keeps Phase.Identify v = keeps-identified v
-  keeps Phase.Status1 v = tt
-  keeps Phase.Status2 v = tt
-  keeps Phase.Busy v = tt
-  keeps Phase.JedecId v = tt
-  keeps Phase.UniqueId v = tt
-  keeps Phase.QuadEnabled2 v = keeps-pick (quadEnabled2Of (byteOf v)) _ _ tt valid
-  keeps Phase.QuadEnabled1 v = tt
-  keeps Phase.EnableCheck2 v = keeps-pick (quadEnabled2Of (byteOf v)) _ _ tt valid
-  keeps Phase.EnableCheck1 v = keeps-pick (quadEnabled1Of (byteOf v)) _ _ tt valid
-  keeps Phase.EnableRead2 v = valid
-  keeps Phase.EnableVerify2 v = keeps-pick (quadEnabled2Of (byteOf v)) _ _ tt valid
-  keeps Phase.EnableRead1 v = valid
-  keeps Phase.EnableVerify1 v = keeps-pick (quadEnabled1Of (byteOf v)) _ _ tt tt
-  keeps Phase.DisableRead2 v = keeps-pick (quadEnabled2Of (byteOf v)) _ _ valid valid
-  keeps Phase.DisableVerify2 v = keeps-pick (not (quadEnabled2Of (byteOf v))) _ _ tt tt
-  keeps Phase.DisableRead1 v = keeps-pick (quadEnabled1Of (byteOf v)) _ _ valid tt
-  keeps Phase.DisableVerify1 v = keeps-pick (not (quadEnabled1Of (byteOf v))) _ _ tt tt
-  keeps Phase.UnprotectRead1 v = valid
-  keeps (Phase.UnprotectRead2 before) v = keeps-first before (byteOf v)
-  keeps (Phase.UnprotectAfter before) v = tt
-  keeps (Phase.Reading offset len done) v = keeps-read offset len (done + chunkOf len done)
-  keeps (Phase.Verifying offset len done) v = keeps-verified offset len done v
-  keeps (Phase.Enabling task) v = valid
-  keeps (Phase.Latching task) v = keeps-latched task (byteOf v)
-  keeps (Phase.Sending task) v = keeps-wait task (firstWait (timingsOf (taskOperation task)))
-  keeps (Phase.Looking task waited) v = keeps-wait task (nextWait (timingsOf (taskOperation task)) waited (busyOf (byteOf v)))
-  keeps (Phase.Pausing task waited) v = valid
 
 pub simulates : Simulates Valid decideNext meaning
 unfolding nextOf

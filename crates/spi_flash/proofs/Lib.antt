@@ -8,3 +8,7 @@ pub mod Runs
 pub mod Reach
 pub mod OnBus
 pub mod Performs
+pub mod Select
+pub mod Filling
+pub mod Buffer
+pub mod Unread

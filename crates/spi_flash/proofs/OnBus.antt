@@ -32,6 +32,45 @@ false≢true h = let z : _≡_ {A = ℕ} 0 1 = cc in omega arith
 abbrev pub answerOf : Reply → List ℕ → Answer
 answerOf r bytes = record { kind = r; bytes = bytes }
 
+-- the frames that a call comes to
+abbrev pub Reached : Stage → Transfer → Type 0
+Reached Stage.Start t = Unit {0}
+Reached Stage.Command Transfer.Raise = ⊥
+Reached Stage.Command (Transfer.Pause us) = ⊥
+Reached Stage.Command (Transfer.Send c) = Unit {0}
+Reached Stage.Command (Transfer.Read c n sink) = Unit {0}
+Reached Stage.Command (Transfer.Write c payload) = Unit {0}
+Reached Stage.Command (Transfer.QuadRead c tclqv margin n sink) = ⊥
+Reached Stage.Command (Transfer.QuadWrite c payload) = ⊥
+Reached Stage.Payload Transfer.Raise = ⊥
+Reached Stage.Payload (Transfer.Pause us) = ⊥
+Reached Stage.Payload (Transfer.Send c) = ⊥
+Reached Stage.Payload (Transfer.Read c n sink) = Unit {0}
+Reached Stage.Payload (Transfer.Write c payload) = Unit {0}
+Reached Stage.Payload (Transfer.QuadRead c tclqv margin n sink) = Unit {0}
+Reached Stage.Payload (Transfer.QuadWrite c payload) = Unit {0}
+Reached Stage.High t = Unit {0}
+
+-- nothing has come of the transfer before its last action
+abbrev pub Fresh : Stage → Outcome → Type 0
+Fresh Stage.Start o = o ≡ Outcome.Value 0
+Fresh Stage.Command o = o ≡ Outcome.Value 0
+Fresh Stage.Payload o = o ≡ Outcome.Value 0
+Fresh Stage.High o = Unit {0}
+
+abbrev pub Proper : Stage → Transfer → Outcome → Type 0
+Proper stage t o = Reached stage t × Fresh stage o
+
+-- select and the delay are answered by done
+pub done-at-start : (t : Transfer) → awaitsOf (startAction t) ≡ Awaits.Done
+done-at-start Transfer.Raise = refl
+done-at-start (Transfer.Pause us) = refl
+done-at-start (Transfer.Send c) = refl
+done-at-start (Transfer.Read c n sink) = refl
+done-at-start (Transfer.Write c payload) = refl
+done-at-start (Transfer.QuadRead c tclqv margin n sink) = refl
+done-at-start (Transfer.QuadWrite c payload) = refl
+
 -- ---- what is left of a transfer behind the action that is out
 
 module _ {A : Type 0} (given : List ℕ) (then : ℕ → BusProg A) where
@@ -95,35 +134,6 @@ module _ {A : Type 0} (given : List ℕ) (then : ℕ → BusProg A) where
   starts (Transfer.QuadRead c tclqv margin n sink) = refl
   starts (Transfer.QuadWrite c payload) = refl
 
-  -- the frames that a call comes to
-  abbrev Reached : Stage → Transfer → Type 0
-  Reached Stage.Start t = Unit {0}
-  Reached Stage.Command Transfer.Raise = ⊥
-  Reached Stage.Command (Transfer.Pause us) = ⊥
-  Reached Stage.Command (Transfer.Send c) = Unit {0}
-  Reached Stage.Command (Transfer.Read c n sink) = Unit {0}
-  Reached Stage.Command (Transfer.Write c payload) = Unit {0}
-  Reached Stage.Command (Transfer.QuadRead c tclqv margin n sink) = ⊥
-  Reached Stage.Command (Transfer.QuadWrite c payload) = ⊥
-  Reached Stage.Payload Transfer.Raise = ⊥
-  Reached Stage.Payload (Transfer.Pause us) = ⊥
-  Reached Stage.Payload (Transfer.Send c) = ⊥
-  Reached Stage.Payload (Transfer.Read c n sink) = Unit {0}
-  Reached Stage.Payload (Transfer.Write c payload) = Unit {0}
-  Reached Stage.Payload (Transfer.QuadRead c tclqv margin n sink) = Unit {0}
-  Reached Stage.Payload (Transfer.QuadWrite c payload) = Unit {0}
-  Reached Stage.High t = Unit {0}
-
-  -- nothing has come of the transfer before its last action
-  abbrev Fresh : Stage → Outcome → Type 0
-  Fresh Stage.Start o = o ≡ Outcome.Value 0
-  Fresh Stage.Command o = o ≡ Outcome.Value 0
-  Fresh Stage.Payload o = o ≡ Outcome.Value 0
-  Fresh Stage.High o = Unit {0}
-
-  abbrev pub Proper : Stage → Transfer → Outcome → Type 0
-  Proper stage t o = Reached stage t × Fresh stage o
-
   -- the frame goes on, or the transfer is over
   abbrev pub onward : Advanced → BusProg A
   onward (Advanced.More g) = does (shownAt (g .stage) (g .transfer) given) (behind (g .stage) (g .transfer) (g .outcome))
@@ -138,15 +148,6 @@ module _ {A : Type 0} (given : List ℕ) (then : ℕ → BusProg A) where
     pub proper : Goes (advancedAt (frameAt t stage o) r bytes given)
     pub same : (rs : List Answer) (buffer : List ℕ) → performed (behind stage t o (answerOf r bytes)) rs buffer ≡
         performed (onward (advancedAt (frameAt t stage o) r bytes given)) rs (takenAt r (sinkOf t) bytes buffer)
-
-  done-at-start : (t : Transfer) → awaitsOf (startAction t) ≡ Awaits.Done
-  done-at-start Transfer.Raise = refl
-  done-at-start (Transfer.Pause us) = refl
-  done-at-start (Transfer.Send c) = refl
-  done-at-start (Transfer.Read c n sink) = refl
-  done-at-start (Transfer.Write c payload) = refl
-  done-at-start (Transfer.QuadRead c tclqv margin n sink) = refl
-  done-at-start (Transfer.QuadWrite c payload) = refl
 
   started : (t : Transfer) (bytes : List ℕ) → Follows Stage.Start t (Outcome.Value 0) Reply.Done bytes
   unfolding onBus reading closes _>>=_ _>>_

@@ -72,7 +72,7 @@ module _ (C : Type 0) {S A : Type 0} (Valid : S → Type 0) (next : S → Outcom
 
   -- from a frame that is out, on the buffer as it stands
   abbrev Sees : List (Event C) → Type 0
-  Sees es = (s : S) (t : Transfer) (stage : Stage) (o : Outcome) (buffer : List ℕ) → Valid s → Proper given (then s) stage t o →
+  Sees es = (s : S) (t : Transfer) (stage : Stage) (o : Outcome) (buffer : List ℕ) → Valid s → Proper stage t o →
       Fitting (entries (out k s (frameAt t stage o)) es) → SameData given (entries (out k s (frameAt t stage o)) es) →
       Undisturbed buffer (entries (out k s (frameAt t stage o)) es) →
       told (entries (out k s (frameAt t stage o)) es) ≡ performedThen (behind given (then s) stage t o) (repliesOf es) buffer
@@ -108,7 +108,7 @@ module _ (C : Type 0) {S A : Type 0} (Valid : S → Type 0) (next : S → Outcom
   taken-settled (bad e) l P h = h
 
   -- a reply that fits
-  module _ (es : List (Event C)) (ih : Sees es) (s : S) (w : Valid s) (t : Transfer) (stage : Stage) (o : Outcome) (p : Proper given (then s) stage t o)
+  module _ (es : List (Event C)) (ih : Sees es) (s : S) (w : Valid s) (t : Transfer) (stage : Stage) (o : Outcome) (p : Proper stage t o)
       (r : Reply) (bytes : List ℕ) (l : Lent) (before : List ℕ) (ready : readyFor k l ≡ true) (fits : fitsOf (actionOf (frameAt t stage o)) r (length bytes) ≡ true) where
     abbrev f : Frame
     f = frameAt t stage o

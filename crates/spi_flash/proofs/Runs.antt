@@ -49,9 +49,29 @@ remainingAt Stage.High t = 1
 abbrev remaining : Frame → ℕ
 remaining f = remainingAt (f .stage) (f .transfer)
 
+-- the frames whose action is the last of their transfer
+abbrev pub Last : Stage → Transfer → Type 0
+Last Stage.Start Transfer.Raise = Unit {0}
+Last Stage.Start (Transfer.Pause us) = Unit {0}
+Last Stage.Start (Transfer.Send c) = ⊥
+Last Stage.Start (Transfer.Read c n k) = ⊥
+Last Stage.Start (Transfer.Write c p) = ⊥
+Last Stage.Start (Transfer.QuadRead c q m n k) = ⊥
+Last Stage.Start (Transfer.QuadWrite c p) = ⊥
+Last Stage.Command t = ⊥
+Last Stage.Payload t = ⊥
+Last Stage.High t = Unit {0}
+
+abbrev pub Begun : Stage → Type 0
+Begun Stage.Start = ⊥
+Begun Stage.Command = Unit {0}
+Begun Stage.Payload = Unit {0}
+Begun Stage.High = Unit {0}
+
 -- a frame that goes on keeps its transfer, takes fewer replies, and its action is no delay
 pub record Goes (f g : Frame) : Type 0 where
   pub same : g .transfer ≡ f .transfer
+  pub begun : Begun (g .stage)
   pub shorter : remaining g < remaining f
   pub quiet : (scratch lent : List ℕ) → delayOf (shownOf (actionOf g) scratch lent) ≡ 0
 
@@ -74,14 +94,14 @@ payload-quiet (Transfer.QuadRead c q m n k) s l = refl
 payload-quiet (Transfer.QuadWrite c p) s l = refl
 
 -- a stage leads on to a later one
-abbrev Later : ℕ → Transfer → Following → Type 0
-Later n t (Following.To Stage.Start) = ⊥
-Later n t (Following.To Stage.Command) = remainingAt Stage.Command t < n
-Later n t (Following.To Stage.Payload) = remainingAt Stage.Payload t < n
-Later n t (Following.To Stage.High) = remainingAt Stage.High t < n
-Later n t Following.Over = Unit {0}
+abbrev Later : Stage → Transfer → Following → Type 0
+Later stage t (Following.To Stage.Start) = ⊥
+Later stage t (Following.To Stage.Command) = remainingAt Stage.Command t < remainingAt stage t
+Later stage t (Following.To Stage.Payload) = remainingAt Stage.Payload t < remainingAt stage t
+Later stage t (Following.To Stage.High) = remainingAt Stage.High t < remainingAt stage t
+Later stage t Following.Over = Last stage t
 
-onward : (t : Transfer) (stage : Stage) → Later (remainingAt stage t) t (nextStage t stage)
+onward : (t : Transfer) (stage : Stage) → Later stage t (nextStage t stage)
 onward Transfer.Raise Stage.Start = tt
 onward (Transfer.Pause us) Stage.Start = tt
 onward (Transfer.Send c) Stage.Start = lit< tt
@@ -118,14 +138,14 @@ error-onward (Transfer.QuadWrite c p) Stage.Command code n h = lit< tt
 error-onward t Stage.Payload code n h = lit< tt
 error-onward t Stage.High code n h = absurd (false≢true h)
 
-module _ (f : Frame) (P : Advanced → Type 0) (mored : (g : Frame) → Goes f g → P (Advanced.More g)) (overed : (o : Outcome) → P (Advanced.Over o)) where
-  goes-on : (x : Following) (o : Outcome) → Later (remaining f) (f .transfer) x → P (movedOn (f .transfer) x o)
+module _ (f : Frame) (P : Advanced → Type 0) (mored : (g : Frame) → Goes f g → P (Advanced.More g)) (overed : (o : Outcome) → Last (f .stage) (f .transfer) → P (Advanced.Over o)) where
+  goes-on : (x : Following) (o : Outcome) → Later (f .stage) (f .transfer) x → P (movedOn (f .transfer) x o)
   unfolding actionOf
   goes-on (Following.To Stage.Start) o h = absurd h
-  goes-on (Following.To Stage.Command) o h = mored (frameAt (f .transfer) Stage.Command o) (record { same = refl; shorter = h; quiet = command-quiet (f .transfer) })
-  goes-on (Following.To Stage.Payload) o h = mored (frameAt (f .transfer) Stage.Payload o) (record { same = refl; shorter = h; quiet = payload-quiet (f .transfer) })
-  goes-on (Following.To Stage.High) o h = mored (frameAt (f .transfer) Stage.High o) (record { same = refl; shorter = h; quiet = λ s l. refl })
-  goes-on Following.Over o h = overed o
+  goes-on (Following.To Stage.Command) o h = mored (frameAt (f .transfer) Stage.Command o) (record { same = refl; begun = tt; shorter = h; quiet = command-quiet (f .transfer) })
+  goes-on (Following.To Stage.Payload) o h = mored (frameAt (f .transfer) Stage.Payload o) (record { same = refl; begun = tt; shorter = h; quiet = payload-quiet (f .transfer) })
+  goes-on (Following.To Stage.High) o h = mored (frameAt (f .transfer) Stage.High o) (record { same = refl; begun = tt; shorter = h; quiet = λ s l. refl })
+  goes-on Following.Over o h = overed o h
 
   advanced-view : (r : Reply) (bytes lent : List ℕ) → fitsOf (actionOf f) r (length bytes) ≡ true → P (advancedAt f r bytes lent)
   unfolding fitsOf actionOf
@@ -135,7 +155,7 @@ module _ (f : Frame) (P : Advanced → Type 0) (mored : (g : Frame) → Goes f g
 
 -- a reply is refused, or the frame goes on, or it is over
 module _ (k : Takes) (f : Frame) (r : Reply) (bytes : List ℕ) (l : Lent) (P : Exchanged → Type 0)
-    (misfit : P Exchanged.Misfit) (goes : (g : Frame) → Goes f g → P (Exchanged.Gave g (actionOf g))) (over : (o : Outcome) → P (Exchanged.Over o)) where
+    (misfit : P Exchanged.Misfit) (goes : (g : Frame) → Goes f g → P (Exchanged.Gave g (actionOf g))) (over : (o : Outcome) → Last (f .stage) (f .transfer) → P (Exchanged.Over o)) where
   fitted : (fits : Bool) → fitsOf (actionOf f) r (length bytes) ≡ fits →
       P (pick fits (gave (advancedOf f r bytes (l .given)) (l .scratch) (takenIn f r bytes (l .buffer))) (exchangedTo Exchanged.Misfit (l .scratch) (l .buffer)) .exchanged)
   unfolding advancedOf
@@ -180,7 +200,7 @@ module _ {S A C : Type 0} (Valid : S → Type 0) (next : S → Outcome → Decis
       heard-view k f r bytes l (λ x. At Q (heardTrail next s f x (λ g. trail next k s g es) (λ t s′. trail next k s′ (firstOf t) es)))
       (every-trail s f Q w h es)
       (λ g e. every-trail s g Q w (rw (e .same) h) es)
-      (λ o. overed es (λ s′ g R v i. every-trail s′ g R v i es) s (f .transfer) o Q w h)
+      (λ o c. overed es (λ s′ g R v i. every-trail s′ g R v i es) s (f .transfer) o Q w h)
 
 -- ---- the delays given out
 
@@ -226,7 +246,7 @@ module _ {S A C : Type 0} (next : S → Outcome → Decision S A) (k : Takes) wh
       (λ h. delays (f .transfer) + asksOf (moved next k s f h l (x .scratch) (x .buffer)) es ≡ asked delays (onward h .past) (onward h .stop))
       (omega (arith, trail-asks s f es))
       (λ g e. omega (arith, e .quiet (x .scratch) (l .given), ap delays (e .same), trail-asks s g es))
-      (λ o. omega (arith, settled-asks es (λ s′ g. trail-asks s′ g es) (next s o) (lentAs (x .scratch) (x .buffer) l)))
+      (λ o c. omega (arith, settled-asks es (λ s′ g. trail-asks s′ g es) (next s o) (lentAs (x .scratch) (x .buffer) l)))
 
 -- ---- the bound of a whole run: no list of events brings the delay asked past the program's
 
@@ -293,7 +313,7 @@ module _ {S A C : Type 0} (next : S → Outcome → Decision S A) (k : Takes) wh
       (suc (length es) + actions (f .transfer) < remaining f + asked actions (onward y .past) (onward y .stop)))
       (λ i. absurd i)
       (λ g e i. ⊎-elim inl (λ n. inr (omega (arith, ap actions (e .same), e .shorter))) (counted s g es i))
-      (λ o i. ⊎-elim inl (λ n. inr (omega (arith, remaining-some (f .stage) (f .transfer)))) (settled-counts es (λ s′ g j. counted s′ g es j) (next s o) (lentAs (x .scratch) (x .buffer) l) i))
+      (λ o c i. ⊎-elim inl (λ n. inr (omega (arith, remaining-some (f .stage) (f .transfer)))) (settled-counts es (λ s′ g j. counted s′ g es j) (next s o) (lentAs (x .scratch) (x .buffer) l) i))
       h
 
   -- on every list of fitting replies as long as the program's bound on its actions, the call has ended

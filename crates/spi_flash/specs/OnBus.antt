@@ -17,7 +17,6 @@ use Rattle.spi_flash.specs.Seen.{Did, did}
 
 infixl 20 _>>=_
 infixl 20 _>>_
-
 -- ---- programs over single calls of the bus
 
 pub data BusProg (A : Type 0) : Type 0 where

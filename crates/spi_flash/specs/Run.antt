@@ -63,6 +63,25 @@ module _ {F C A : Type 0} (system : System F C A) where
   unfoldable pub runOf : F → C → Lent → List (Event C) → List (Entry C A)
   runOf f c l es = begunWith (system .begin f c l .given) c l (system .begin f c l) es
 
+  -- a call from its beginning, one that ends at once too; what is turned away before the bus has failed, as in the Rust
+  abbrev pub atOnce : Given A → Given A
+  atOnce (act shown) = act shown
+  atOnce (ended a) = ended a
+  atOnce (failed e) = failed e
+  atOnce (refused e) = failed e
+
+  abbrev pub opening : C → Lent → Moved F A → Entry C A
+  opening c l m = record { event = call c l; given = atOnce (m .given); left = m .left }
+
+  unfoldable pub callOf : F → C → Lent → List (Event C) → List (Entry C A)
+  callOf f c l es = opening c l (system .begin f c l) ∷ goesOn (system .begin f c l .flash) es
+
+  -- the state after a list of events
+  unfoldable pub stateAfter : F → List (Event C) → F
+  stateAfter f [] = f
+  stateAfter f (reply r bytes l ∷ es) = stateAfter (system .answer f r bytes l .flash) es
+  stateAfter f (call c l ∷ es) = pick (system .running f) (stateAfter (system .begin f c l .flash) es) f
+
 -- the microseconds in the delays given out, each counted once
 abbrev pub delayGiven : {A : Type 0} → Given A → ℕ
 delayGiven (act shown) = delayOf shown
