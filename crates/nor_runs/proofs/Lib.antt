@@ -9,6 +9,10 @@ pub mod Places
 pub mod Keeps
 pub mod Simulation
 pub mod Runs
+pub mod Steps
 pub mod Openings
+pub mod Views
+pub mod LeftBehind
+pub mod SameAsRust
 pub mod Promises
 pub mod Refusals

@@ -1,37 +1,35 @@
--- How a call begins: with the first transfer of the Rust's program, or without a run.
-use Prim.Native.Nat.{ℕ, _+_, _≤_}
+-- How each call begins on a driver at rest, and that the Rust's program begins likewise.
+use Prim.Native.Nat.{ℕ}
 use native.Mathlib.Omega.{arith}
-use mathlib.Core.Bool.{Bool, true, false, not}
-use mathlib.Core.Logic.{_⊎_, inl, inr}
-use mathlib.Core.Path.{_≡_, refl, ap, sym, _∙_, subst}
-use mathlib.Core.List.{List, [], _∷_}
+use mathlib.Core.Bool.{Bool, true, false}
+use mathlib.Core.Path.{_≡_, refl, ap, sym, _∙_}
+use mathlib.Core.List.{List}
 use lib.ListN.{length}
 use lib.Dec.{ltb}
 use borrow.Author.Tests.{le-ltb}
-use Rattle.qspi.specs.Frame.{firstOf}
-use Rattle.qspi.specs.Command.{scratchLeast}
+use Rattle.qspi.specs.Choice.{pick}
+use Rattle.qspi.specs.ShownBytes.{startShown}
+use Rattle.qspi.specs.declared.transfer.Sink.{Sink}
 use Rattle.qspi.specs.declared.transfer.Transfer.{Transfer}
 use Rattle.spi_flash.specs.Loan.{Lent}
-use Rattle.spi_flash.specs.Prog.{Prog, ret, fail, ask, _>>=_, _>>_, if_then_else_, refuse, transfer}
-use Rattle.spi_flash.specs.Run as Run
-use Rattle.spi_flash.specs.Run.{Event, call, Entry, entry, goesOn, begunWith, runOf}
-use Rattle.spi_flash.specs.Machine.{Decision, more, well, bad, Config, out, rest, settle, machine, tree, Onward}
+use Rattle.spi_flash.specs.Prog.{Prog, ret, fail, ask, _>>=_, _>>_, refuse}
+use Rattle.spi_flash.specs.Machine.{Decision, tree, Onward}
+use Rattle.spi_flash.specs.Seen.{selectAfter}
 use Rattle.spi_flash.specs.declared.error.FlashError.{FlashError}
 use Rattle.spi_flash.specs.declared.loan.Takes.{Takes}
 use Rattle.spi_flash.proofs.Cases.{by-cases}
 use Rattle.spi_nor.specs.Config.{inBoundsOf, singleConfig}
 use Rattle.spi_nor.specs.Command.{readIdCommand, readUniqueIdCommand}
+use Rattle.spi_nor.specs.declared.config.QuadSetting.{QuadSetting}
 use Rattle.spi_nor.specs.declared.config.SpiNorConfig.{SpiNorConfig}
-use Rattle.nor_driver.specs.Transfer.{numberTransfer, inRange, multipleOf, unitSize, afterUnit}
-use Rattle.nor_driver.specs.Next.{goTo, endWith, read1Then, read2Then, readFrom, programFrom, eraseUnit, eraseFrom}
-use Rattle.nor_driver.specs.Step.{flashOf, settledOf}
-use Rattle.nor_driver.specs.Call.{givenDevice, freshSetup, constructedOf, toldOf, freedOf, openedOf, begunOf, readThen, writeThen, eraseThen, idleOf, beginOf}
-use Rattle.nor_runs.specs.Rust.{is-busy, jedec-id, unique-id, quad-enabled, enable-quad, disable-quad, read, reading, write, writing, erase-unit, erase, erasing, unprotect, with-config}
+use Rattle.nor_driver.specs.Transfer.{numberTransfer, placeOf, chunkOf, readAt, readTransfer, inRange, multipleOf, unitSize, stepKind, afterUnit}
+use Rattle.nor_driver.specs.Next.{goTo, read1Then, read2Then, readFrom, programFrom, eraseUnit, eraseFrom}
+use Rattle.nor_driver.specs.Step.{flashOf}
+use Rattle.nor_driver.specs.Call.{givenDevice, freshSetup, constructedOf, toldOf, freedOf, begunOf, readThen, writeThen, eraseThen, idleOf, beginOf}
+use Rattle.nor_runs.specs.Rust.{read, write, erase-unit, erase, erasing}
 use Rattle.nor_runs.specs.Program.{Left, leaving, programOf}
-use Rattle.nor_runs.specs.Run.{begunAs, nor, takesOf}
+use Rattle.nor_runs.specs.Run.{Sort, constructs, tells, releases, uses, sortOf, begunAs, nor, takesOf}
 use Rattle.nor_runs.specs.ProgramBounds.{Begins, judgedSetup}
-use Rattle.nor_runs.specs.Promises.{GivesAction}
-use Rattle.qspi.specs.Choice.{pick}
 use Rattle.nor_driver.specs.declared.phase.EraseKind.{EraseKind}
 use Rattle.nor_driver.specs.declared.phase.Phase.{Phase}
 use Rattle.nor_driver.specs.declared.state.Answer.{Answer}
@@ -41,10 +39,9 @@ use Rattle.nor_driver.specs.declared.state.Setup.{Setup}
 use Rattle.nor_driver.specs.declared.state.SpiNorFlash.{SpiNorFlash}
 use Rattle.nor_driver.specs.declared.state.Then.{Then}
 use Rattle.nor_runs.proofs.Loops.{erasing-loop}
-use Rattle.nor_runs.proofs.Places.{Place, place, decide, decideNext, Valid, Built}
+use Rattle.nor_runs.proofs.Places.{place, decide, Stays}
 use Rattle.nor_runs.proofs.Keeps.{keeps-read, keeps-program, keeps-unit, keeps-erase, keeps-pick}
 use Rattle.nor_runs.proofs.Simulation.{meaning, then-assoc, starts, reads-on, writes-on, erases-unit, erases-on, beginnings}
-use Rattle.nor_runs.proofs.Runs.{configOf, runs-same}
 
 -- ---- the Rust's tests before the bus
 
@@ -83,139 +80,16 @@ module _ (s : Setup) (valid : inBoundsOf (s .device) ≡ true) where
       ∙ ap (λ p. (erase-unit s kind offset >> p) >> ret (leaving s Answer.Done)) (sym (nothing-left (afterUnit (s .device) kind offset)))
       ∙ erases-unit s valid kind offset (afterUnit (s .device) kind offset)
 
--- ---- a call with a run, or without one
+-- ---- what is known of a beginning
 
--- the device that is judged when a call begins: a construction's is the one that it is given
-abbrev pub Judged : Setup → Call → Type 0
-Judged s c = inBoundsOf (judgedSetup s c .device) ≡ true
+-- select goes low with the first action
+abbrev pub Selects : Transfer → Type 0
+Selects t = (select : Bool) → selectAfter (startShown t) select ≡ selectAfter (startShown t) true
 
--- the run begins with the first action of a transfer, and goes on as the machine does; the program is what the machine follows
-pub record Opens (flash : SpiNorFlash) (c : Call) (l : Lent) : Type 0 where
-  pub first : Transfer
-  pub at : Place
-  pub valid : Valid at
-  pub program : programOf (flash .setup) c (length (l .buffer)) (length (l .given)) ≡ ask first (meaning at)
-  pub judged : Judged (flash .setup) c
-  pub begins : Begins (flash .setup) c (length (l .buffer)) (length (l .given))
-  pub run : (es : List (Event Call)) → runOf nor flash c l es ≡
-      entry (call c l) (settle (takesOf c l) (more first at) l) ∷ goesOn (machine decideNext Call) (out (takesOf c l) at (firstOf first)) es
-
-pub record Nothing-begun (flash : SpiNorFlash) (c : Call) (l : Lent) : Type 0 where
-  pub none : (es : List (Event Call)) → runOf nor flash c l es ≡ []
-  pub no-action : GivesAction (nor .begin flash c l .given) → ⊥
-
-module _ (setup : Setup) (built : Bool) (delivered : ℕ) (c : Call) (l : Lent) where
-  abbrev idle-flash : SpiNorFlash
-  idle-flash = flashOf setup built delivered Running.Idle
-
-  abbrev View : Type 0
-  View = Nothing-begun idle-flash c l ⊎ Opens idle-flash c l
-
-  -- a call that is not a construction
-  module _ (opening : Then) (is : nor .begin idle-flash c l ≡ begunAs (begunOf idle-flash (length (l .scratch)) (takesOf c l) opening) l)
-      (program : inBoundsOf (setup .device) ≡ true → programOf setup c (length (l .buffer)) (length (l .given)) ≡ tree meaning (decide opening))
-      (keeps : inBoundsOf (setup .device) ≡ true → Onward Valid (decide opening))
-      (judges : inBoundsOf (setup .device) ≡ true → Judged setup c)
-      (tested : (s′ : Setup) (t : Transfer) (phase : Phase) → opening ≡ Then.Go s′ t phase → Begins setup c (length (l .buffer)) (length (l .given))) where
-    refused-view : (e : FlashError) → nor .begin idle-flash c l .given ≡ Run.refused e → View
-    unfolding runOf
-    refused-view e g = inl (record { none = λ es. rw g refl; no-action = λ h. subst GivesAction g h })
-
-    ended-view : (a : Left) → nor .begin idle-flash c l .given ≡ Run.ended a → View
-    unfolding runOf
-    ended-view a g = inl (record { none = λ es. rw g refl; no-action = λ h. subst GivesAction g h })
-
-    opened-view : (x : Then) → opening ≡ x → inBoundsOf (setup .device) ≡ true →
-        nor .begin idle-flash c l ≡ begunAs (openedOf idle-flash (takesOf c l) x) l → View
-    unfolding openedOf settledOf runOf
-    opened-view (Then.Go s′ t phase) e inside b = inr (record {
-      first = t;
-      at = place s′ phase;
-      valid = subst (λ y. Onward Valid (decide y)) e (keeps inside);
-      program = program inside ∙ ap (λ y. tree meaning (decide y)) e;
-      judged = judges inside;
-      begins = tested s′ t phase e;
-      run = λ es.
-          ap (λ m. begunWith nor (m .given) c l m es) b
-          ∙ ap (λ xs. entry (call c l) (settle (takesOf c l) (more t (place s′ phase)) l) ∷ xs)
-          (runs-same (flashOf s′ built 0 (Running.Busy (record { phase = phase; frame = firstOf t; takes = takesOf c l }))) es);
-    })
-    opened-view (Then.End s′ answer) e inside b = ended-view (leaving s′ answer) (ap (λ m. m .given) b)
-    opened-view (Then.Fail error) e inside b = refused-view error (ap (λ m. m .given) b)
-
-    begun-view : View
-    unfolding begunOf
-    begun-view =
-        by-cases built
-        (λ e. by-cases (ltb (length (l .scratch)) scratchLeast)
-        (λ d. refused-view FlashError.Misfit (ap (λ m. m .given) is ∙ rw (e, d) refl))
-        (λ d. by-cases (inBoundsOf (setup .device))
-        (λ h. opened-view opening refl h (is ∙ rw (e, d, h) refl))
-        (λ h. refused-view FlashError.InvalidGeometry (ap (λ m. m .given) is ∙ rw (e, d, h) refl))))
-        (λ e. refused-view FlashError.OutOfTurn (ap (λ m. m .given) is ∙ rw e refl))
-
-  -- what gives no action has no run
-  quiet-view : (g : Run.Given Left) → nor .begin idle-flash c l .given ≡ g → (GivesAction g → ⊥) → Nothing-begun idle-flash c l
-  unfolding runOf
-  quiet-view g is silent = record {
-    none = λ es. ap (λ x. begunWith nor x c l (nor .begin idle-flash c l) es) is ∙ empty g (nor .begin idle-flash c l) silent es;
-    no-action = λ h. silent (subst GivesAction is h);
-  }
-    where
-      empty : (g : Run.Given Left) (m : Run.Moved SpiNorFlash Left) → (GivesAction g → ⊥) → (es : List (Event Call)) → begunWith nor g c l m es ≡ []
-      empty (Run.act shown) m silent es = absurd (silent tt)
-      empty (Run.ended a) m silent es = refl
-      empty (Run.failed e) m silent es = refl
-      empty (Run.refused e) m silent es = refl
-
-  -- a construction
-  module _ (config : SpiNorConfig) (is : nor .begin idle-flash c l ≡ begunAs (constructedOf idle-flash config (length (l .scratch))) l)
-      (takes : takesOf c l ≡ Takes.Nothing)
-      (program : programOf setup c (length (l .buffer)) (length (l .given)) ≡ ask Transfer.Raise (meaning (place (freshSetup config) Phase.Raised)))
-      (judges : inBoundsOf (givenDevice config) ≡ true → Judged setup c)
-      (tested : inBoundsOf (givenDevice config) ≡ true → Begins setup c (length (l .buffer)) (length (l .given))) where
-    begins : ltb (length (l .scratch)) scratchLeast ≡ false → inBoundsOf (givenDevice config) ≡ true → nor .begin idle-flash c l ≡
-        begunAs (settledOf (flashOf (freshSetup config) false 0 Running.Idle) Takes.Nothing (goTo (freshSetup config) Transfer.Raise Phase.Raised)) l
-    unfolding constructedOf
-    begins d h = is ∙ rw (d, h) refl
-
-    constructed-view : View
-    unfolding constructedOf settledOf runOf
-    constructed-view =
-        by-cases (ltb (length (l .scratch)) scratchLeast)
-        (λ d. inl (quiet-view (Run.refused FlashError.Misfit) (ap (λ m. m .given) is ∙ rw d refl) (λ h. h)))
-        (λ d. by-cases (inBoundsOf (givenDevice config))
-        (λ h. inr (record {
-          first = Transfer.Raise;
-          at = place (freshSetup config) Phase.Raised;
-          valid = h;
-          program = program;
-          judged = judges h;
-          begins = tested h;
-          run = λ es.
-              ap (λ m. begunWith nor (m .given) c l m es) (begins d h)
-              ∙ rw takes
-              (ap (λ xs. entry (call c l) (settle Takes.Nothing (more Transfer.Raise (place (freshSetup config) Phase.Raised)) l) ∷ xs)
-              (runs-same (flashOf (freshSetup config) false 0 (Running.Busy (record { phase = Phase.Raised; frame = firstOf Transfer.Raise; takes = Takes.Nothing }))) es));
-        }))
-        (λ h. inl (quiet-view (Run.refused FlashError.InvalidGeometry) (ap (λ m. m .given) is ∙ rw (d, h) refl) (λ i. i))))
-
-  -- an accessor
-  told-quiet : (answer : Answer) → nor .begin idle-flash c l ≡ begunAs (toldOf idle-flash answer) l → View
-  unfolding toldOf
-  told-quiet answer is =
-      by-cases built
-      (λ e. inl (quiet-view (Run.ended (leaving setup answer)) (ap (λ m. m .given) is ∙ rw e refl) (λ h. h)))
-      (λ e. inl (quiet-view (Run.refused FlashError.OutOfTurn) (ap (λ m. m .given) is ∙ rw e refl) (λ h. h)))
-
-  freed-quiet : nor .begin idle-flash c l ≡ begunAs (freedOf idle-flash) l → View
-  unfolding freedOf
-  freed-quiet is =
-      by-cases built
-      (λ e. inl (quiet-view (Run.ended (leaving setup Answer.Done)) (ap (λ m. m .given) is ∙ rw e refl) (λ h. h)))
-      (λ e. inl (quiet-view (Run.refused FlashError.OutOfTurn) (ap (λ m. m .given) is ∙ rw e refl) (λ h. h)))
-
--- ---- every call
+abbrev pub SelectsFirst : Then → Type 0
+SelectsFirst (Then.Go s t phase) = Selects t
+SelectsFirst (Then.End s answer) = Unit {0}
+SelectsFirst (Then.Fail error) = Unit {0}
 
 -- what goes to the bus has passed the Rust's tests
 no-go : {e : FlashError} {s : Setup} {t : Transfer} {p : Phase} → Then.Fail e ≡ Then.Go s t p → ⊥
@@ -257,66 +131,251 @@ unit-tested s kind address end s′ t p h =
     let a = passed _ _ _ s′ t p h in
     (a .0, passed _ _ _ s′ t p (a .1) .0)
 
-keeps-read-call : (s : Setup) (offset len : ℕ) → inBoundsOf (s .device) ≡ true → Onward Valid (decide (readThen s offset len))
+keeps-read-call : (s : Setup) (offset len : ℕ) → Stays s (readThen s offset len)
 unfolding readThen
-keeps-read-call s offset len h = keeps-pick (inRange (s .device .capacity) offset len) _ _ (keeps-read s h offset len 0) tt
+keeps-read-call s offset len = keeps-pick (Stays s) (inRange (s .device .capacity) offset len) _ _ (keeps-read (Stays s) s (λ t phase h. (refl, h)) (λ answer. refl) (λ e. tt) offset len 0) tt
 
-keeps-write-call : (s : Setup) (offset len : ℕ) → inBoundsOf (s .device) ≡ true → Onward Valid (decide (writeThen s offset len))
+keeps-write-call : (s : Setup) (offset len : ℕ) → Stays s (writeThen s offset len)
 unfolding writeThen
-keeps-write-call s offset len h =
-    keeps-pick (inRange (s .device .capacity) offset len) _ _
-    (keeps-pick (multipleOf offset (s .device .«page_size»)) _ _
-    (keeps-pick (multipleOf len (s .device .«page_size»)) _ _ (keeps-program s h offset len 0) tt) tt) tt
+keeps-write-call s offset len =
+    keeps-pick (Stays s) (inRange (s .device .capacity) offset len) _ _
+    (keeps-pick (Stays s) (multipleOf offset (s .device .«page_size»)) _ _
+    (keeps-pick (Stays s) (multipleOf len (s .device .«page_size»)) _ _ (keeps-program (Stays s) s (λ t phase h. (refl, h)) (λ answer. refl) (λ e. tt) offset len 0) tt) tt) tt
 
-keeps-erase-call : (s : Setup) (from to : ℕ) → inBoundsOf (s .device) ≡ true → Onward Valid (decide (eraseThen s from to))
+keeps-erase-call : (s : Setup) (from to : ℕ) → Stays s (eraseThen s from to)
 unfolding eraseThen
-keeps-erase-call s from to h =
-    keeps-pick (ltb to from) _ _ tt
-    (keeps-pick (ltb (s .device .capacity) to) _ _ tt
-    (keeps-pick (multipleOf from (s .device .«sector_size»)) _ _
-    (keeps-pick (multipleOf to (s .device .«sector_size»)) _ _ (keeps-erase s h from to) tt) tt))
+keeps-erase-call s from to =
+    keeps-pick (Stays s) (ltb to from) _ _ tt
+    (keeps-pick (Stays s) (ltb (s .device .capacity) to) _ _ tt
+    (keeps-pick (Stays s) (multipleOf from (s .device .«sector_size»)) _ _
+    (keeps-pick (Stays s) (multipleOf to (s .device .«sector_size»)) _ _ (keeps-erase (Stays s) s (λ t phase h. (refl, h)) (λ answer. refl) (λ e. tt) from to) tt) tt))
 
-idle-view : (setup : Setup) (built : Bool) (delivered : ℕ) (c : Call) (l : Lent) →
-    Nothing-begun (flashOf setup built delivered Running.Idle) c l ⊎ Opens (flashOf setup built delivered Running.Idle) c l
+-- ---- the first action
+
+selects-pick : (b : Bool) (x y : Then) → SelectsFirst x → SelectsFirst y → SelectsFirst (pick b x y)
+selects-pick true x y h k = h
+selects-pick false x y h k = k
+
+selects-read : (s : Setup) (offset len : ℕ) → SelectsFirst (readThen s offset len)
+unfolding readThen readFrom readTransfer
+selects-read s offset len = selects-pick (inRange (s .device .capacity) offset len) _ _ (selects-pick (ltb 0 len) _ _ (at (s .config .quad)) tt) tt
+  where
+    at : (q : QuadSetting) → Selects (readAt q (placeOf offset 0) (chunkOf len 0) (Sink.Buffer 0))
+    at QuadSetting.Single = λ select. refl
+    at (QuadSetting.Quad q) = λ select. refl
+
+selects-write : (s : Setup) (offset len : ℕ) → SelectsFirst (writeThen s offset len)
+unfolding writeThen programFrom
+selects-write s offset len =
+    selects-pick (inRange (s .device .capacity) offset len) _ _
+    (selects-pick (multipleOf offset (s .device .«page_size»)) _ _
+    (selects-pick (multipleOf len (s .device .«page_size»)) _ _ (selects-pick (ltb 0 len) _ _ (λ select. refl) tt) tt) tt) tt
+
+selects-unit : (s : Setup) (kind : EraseKind) (address end : ℕ) → SelectsFirst (eraseUnit s kind address end)
+unfolding eraseUnit
+selects-unit s kind address end =
+    selects-pick (inRange (s .device .capacity) address (unitSize (s .device) kind)) _ _
+    (selects-pick (multipleOf address (unitSize (s .device) kind)) _ _ (λ select. refl) tt) tt
+
+selects-erase : (s : Setup) (from to : ℕ) → SelectsFirst (eraseThen s from to)
+unfolding eraseThen eraseFrom
+selects-erase s from to =
+    selects-pick (ltb to from) _ _ tt
+    (selects-pick (ltb (s .device .capacity) to) _ _ tt
+    (selects-pick (multipleOf from (s .device .«sector_size»)) _ _
+    (selects-pick (multipleOf to (s .device .«sector_size»)) _ _ (selects-pick (ltb from to) _ _ (selects-unit s (stepKind (s .device) from to) from to) tt) tt) tt))
+
+-- ---- every call
+
+module _ (setup : Setup) (built : Bool) (delivered : ℕ) (c : Call) (l : Lent) where
+  abbrev pub idle : SpiNorFlash
+  idle = flashOf setup built delivered Running.Idle
+
+  abbrev program : Prog Left
+  program = programOf setup c (length (l .buffer)) (length (l .given))
+
+  -- a call on a driver that is built
+  pub record Use : Type 0 where
+    pub sort : sortOf c ≡ uses
+    pub opening : Then
+    pub is : nor .begin idle c l ≡ begunAs (begunOf idle (length (l .scratch)) (takesOf c l) opening) l
+    pub follows : inBoundsOf (setup .device) ≡ true → program ≡ tree meaning (decide opening)
+    pub keeps : Stays setup opening
+    pub selects : SelectsFirst opening
+    pub judges : judgedSetup setup c ≡ setup
+    pub tested : (s′ : Setup) (t : Transfer) (phase : Phase) → opening ≡ Then.Go s′ t phase → Begins setup c (length (l .buffer)) (length (l .given))
+
+  pub record Construction : Type 0 where
+    pub sort : sortOf c ≡ constructs
+    pub config : SpiNorConfig
+    pub is : nor .begin idle c l ≡ begunAs (constructedOf idle config (length (l .scratch))) l
+    pub takes : takesOf c l ≡ Takes.Nothing
+    pub follows : program ≡ ask Transfer.Raise (meaning (place (freshSetup config) Phase.Raised))
+    pub judges : judgedSetup setup c ≡ freshSetup config
+    pub tested : inBoundsOf (givenDevice config) ≡ true → Begins setup c (length (l .buffer)) (length (l .given))
+
+  pub record Accessor : Type 0 where
+    pub sort : sortOf c ≡ tells
+    pub answer : Answer
+    pub is : nor .begin idle c l ≡ begunAs (toldOf idle answer) l
+    pub follows : program ≡ ret (leaving setup answer)
+
+  pub record Release : Type 0 where
+    pub sort : sortOf c ≡ releases
+    pub is : nor .begin idle c l ≡ begunAs (freedOf idle) l
+    pub follows : program ≡ ret (leaving setup Answer.Done)
+
+  pub data Opening : Type 0 where
+    usage : Use → Opening
+    construction : Construction → Opening
+    accessor : Accessor → Opening
+    release : Release → Opening
+
+pub opening-of : (setup : Setup) (built : Bool) (delivered : ℕ) (c : Call) (l : Lent) → Opening setup built delivered c l
 unfolding beginOf idleOf programOf
-idle-view s u n Call.New l = constructed-view s u n Call.New l singleConfig refl refl (beginnings s .construction singleConfig) (λ h. h) (λ h. h)
-idle-view s u n (Call.WithConfig config) l = constructed-view s u n (Call.WithConfig config) l config refl refl (beginnings s .construction config) (λ h. h) (λ h. h)
-idle-view s u n Call.Config l = told-quiet s u n Call.Config l _ refl
-idle-view s u n Call.Device l = told-quiet s u n Call.Device l _ refl
-idle-view s u n Call.Id l = told-quiet s u n Call.Id l _ refl
-idle-view s u n Call.Free l = freed-quiet s u n Call.Free l refl
-idle-view s u n Call.ReadStatus1 l = begun-view s u n Call.ReadStatus1 l (read1Then s Phase.Status1) refl (λ h. beginnings s .status1) (λ h. h) (λ h. h) (λ s′ t p e. tt)
-idle-view s u n Call.ReadStatus2 l = begun-view s u n Call.ReadStatus2 l (read2Then s Phase.Status2) refl (λ h. beginnings s .status2) (λ h. h) (λ h. h) (λ s′ t p e. tt)
-idle-view s u n Call.IsBusy l = begun-view s u n Call.IsBusy l (read1Then s Phase.Busy) refl (λ h. beginnings s .busy) (λ h. h) (λ h. h) (λ s′ t p e. tt)
-idle-view s u n Call.JedecId l = begun-view s u n Call.JedecId l (goTo s (numberTransfer readIdCommand 3) Phase.JedecId) refl (λ h. beginnings s .id) (λ h. h) (λ h. h) (λ s′ t p e. tt)
-idle-view s u n Call.UniqueId l = begun-view s u n Call.UniqueId l (goTo s (numberTransfer readUniqueIdCommand 8) Phase.UniqueId) refl (λ h. beginnings s .uniqueId) (λ h. h) (λ h. h) (λ s′ t p e. tt)
-idle-view s u n Call.QuadEnabled l = begun-view s u n Call.QuadEnabled l (read2Then s Phase.QuadEnabled2) refl (λ h. beginnings s .quadEnabled) (λ h. h) (λ h. h) (λ s′ t p e. tt)
-idle-view s u n Call.EnableQuad l = begun-view s u n Call.EnableQuad l (read2Then s Phase.EnableCheck2) refl (λ h. beginnings s .enableQuad) (λ h. h) (λ h. h) (λ s′ t p e. tt)
-idle-view s u n Call.DisableQuad l = begun-view s u n Call.DisableQuad l (read2Then s Phase.DisableRead2) refl (λ h. beginnings s .disableQuad) (λ h. h) (λ h. h) (λ s′ t p e. tt)
-idle-view s u n (Call.Read offset) l =
-    begun-view s u n (Call.Read offset) l (readThen s offset (length (l .buffer))) refl (λ h. reads s offset (length (l .buffer))) (keeps-read-call s offset (length (l .buffer))) (λ h. h)
-    (read-tested s offset (length (l .buffer)))
-idle-view s u n (Call.Write offset) l =
-    begun-view s u n (Call.Write offset) l (writeThen s offset (length (l .given))) refl (λ h. writes s h offset (length (l .given))) (keeps-write-call s offset (length (l .given))) (λ h. h)
-    (write-tested s offset (length (l .given)))
-idle-view s u n Call.Unprotect l = begun-view s u n Call.Unprotect l (read1Then s Phase.UnprotectRead1) refl (λ h. beginnings s .unprotected) (λ h. h) (λ h. h) (λ s′ t p e. tt)
-idle-view s u n (Call.Erase from to) l = begun-view s u n (Call.Erase from to) l (eraseThen s from to) refl (λ h. erases s h from to) (keeps-erase-call s from to) (λ h. h)
-    (erase-tested s from to)
-idle-view s u n (Call.EraseSector offset) l =
-    begun-view s u n (Call.EraseSector offset) l (eraseUnit s EraseKind.Sector offset (afterUnit (s .device) EraseKind.Sector offset)) refl
-    (λ h. erases-one s h EraseKind.Sector offset) (λ h. keeps-unit s h EraseKind.Sector offset (afterUnit (s .device) EraseKind.Sector offset)) (λ h. h)
-    (unit-tested s EraseKind.Sector offset (afterUnit (s .device) EraseKind.Sector offset))
-idle-view s u n (Call.EraseBlock offset) l =
-    begun-view s u n (Call.EraseBlock offset) l (eraseUnit s EraseKind.Block offset (afterUnit (s .device) EraseKind.Block offset)) refl
-    (λ h. erases-one s h EraseKind.Block offset) (λ h. keeps-unit s h EraseKind.Block offset (afterUnit (s .device) EraseKind.Block offset)) (λ h. h)
-    (unit-tested s EraseKind.Block offset (afterUnit (s .device) EraseKind.Block offset))
-
--- a call begun during another has no run
-busy-view : (setup : Setup) (built : Bool) (delivered : ℕ) (running : Running) (c : Call) (l : Lent) →
-    Nothing-begun (flashOf setup built delivered running) c l ⊎ Opens (flashOf setup built delivered running) c l
-unfolding beginOf runOf
-busy-view s u n Running.Idle c l = idle-view s u n c l
-busy-view s u n (Running.Busy job) c l = inl (record { none = λ es. refl; no-action = λ h. h })
-
-pub view : (flash : SpiNorFlash) (c : Call) (l : Lent) → Nothing-begun flash c l ⊎ Opens flash c l
-view flash c l = busy-view (flash .setup) (flash .built) (flash .delivered) (flash .running) c l
+opening-of s u n Call.New l = construction (record { sort = refl; config = singleConfig; is = refl; takes = refl; follows = beginnings s .construction singleConfig; judges = refl; tested = λ h. h })
+opening-of s u n (Call.WithConfig config) l = construction (record { sort = refl; config = config; is = refl; takes = refl; follows = beginnings s .construction config; judges = refl; tested = λ h. h })
+opening-of s u n Call.Config l = accessor (record { sort = refl; answer = Answer.Config (s .config); is = refl; follows = refl })
+opening-of s u n Call.Device l = accessor (record { sort = refl; answer = Answer.Device (s .device); is = refl; follows = refl })
+opening-of s u n Call.Id l = accessor (record { sort = refl; answer = Answer.Id (s .id); is = refl; follows = refl })
+opening-of s u n Call.Free l = release (record { sort = refl; is = refl; follows = refl })
+opening-of s u n Call.ReadStatus1 l = usage (record {
+  sort = refl;
+  opening = read1Then s Phase.Status1;
+  is = refl;
+  follows = λ h. beginnings s .status1;
+  keeps = (refl, tt);
+  selects = λ select. refl;
+  judges = refl;
+  tested = λ s′ t p e. tt;
+})
+opening-of s u n Call.ReadStatus2 l = usage (record {
+  sort = refl;
+  opening = read2Then s Phase.Status2;
+  is = refl;
+  follows = λ h. beginnings s .status2;
+  keeps = (refl, tt);
+  selects = λ select. refl;
+  judges = refl;
+  tested = λ s′ t p e. tt;
+})
+opening-of s u n Call.IsBusy l = usage (record {
+  sort = refl;
+  opening = read1Then s Phase.Busy;
+  is = refl;
+  follows = λ h. beginnings s .busy;
+  keeps = (refl, tt);
+  selects = λ select. refl;
+  judges = refl;
+  tested = λ s′ t p e. tt;
+})
+opening-of s u n Call.JedecId l = usage (record {
+  sort = refl;
+  opening = goTo s (numberTransfer readIdCommand 3) Phase.JedecId;
+  is = refl;
+  follows = λ h. beginnings s .id;
+  keeps = (refl, tt);
+  selects = λ select. refl;
+  judges = refl;
+  tested = λ s′ t p e. tt;
+})
+opening-of s u n Call.UniqueId l = usage (record {
+  sort = refl;
+  opening = goTo s (numberTransfer readUniqueIdCommand 8) Phase.UniqueId;
+  is = refl;
+  follows = λ h. beginnings s .uniqueId;
+  keeps = (refl, tt);
+  selects = λ select. refl;
+  judges = refl;
+  tested = λ s′ t p e. tt;
+})
+opening-of s u n Call.QuadEnabled l = usage (record {
+  sort = refl;
+  opening = read2Then s Phase.QuadEnabled2;
+  is = refl;
+  follows = λ h. beginnings s .quadEnabled;
+  keeps = (refl, tt);
+  selects = λ select. refl;
+  judges = refl;
+  tested = λ s′ t p e. tt;
+})
+opening-of s u n Call.EnableQuad l = usage (record {
+  sort = refl;
+  opening = read2Then s Phase.EnableCheck2;
+  is = refl;
+  follows = λ h. beginnings s .enableQuad;
+  keeps = (refl, tt);
+  selects = λ select. refl;
+  judges = refl;
+  tested = λ s′ t p e. tt;
+})
+opening-of s u n Call.DisableQuad l = usage (record {
+  sort = refl;
+  opening = read2Then s Phase.DisableRead2;
+  is = refl;
+  follows = λ h. beginnings s .disableQuad;
+  keeps = (refl, tt);
+  selects = λ select. refl;
+  judges = refl;
+  tested = λ s′ t p e. tt;
+})
+opening-of s u n (Call.Read offset) l = usage (record {
+  sort = refl;
+  opening = readThen s offset (length (l .buffer));
+  is = refl;
+  follows = λ h. reads s offset (length (l .buffer));
+  keeps = keeps-read-call s offset (length (l .buffer));
+  selects = selects-read s offset (length (l .buffer));
+  judges = refl;
+  tested = read-tested s offset (length (l .buffer));
+})
+opening-of s u n (Call.Write offset) l = usage (record {
+  sort = refl;
+  opening = writeThen s offset (length (l .given));
+  is = refl;
+  follows = λ h. writes s h offset (length (l .given));
+  keeps = keeps-write-call s offset (length (l .given));
+  selects = selects-write s offset (length (l .given));
+  judges = refl;
+  tested = write-tested s offset (length (l .given));
+})
+opening-of s u n Call.Unprotect l = usage (record {
+  sort = refl;
+  opening = read1Then s Phase.UnprotectRead1;
+  is = refl;
+  follows = λ h. beginnings s .unprotected;
+  keeps = (refl, tt);
+  selects = λ select. refl;
+  judges = refl;
+  tested = λ s′ t p e. tt;
+})
+opening-of s u n (Call.Erase from to) l = usage (record {
+  sort = refl;
+  opening = eraseThen s from to;
+  is = refl;
+  follows = λ h. erases s h from to;
+  keeps = keeps-erase-call s from to;
+  selects = selects-erase s from to;
+  judges = refl;
+  tested = erase-tested s from to;
+})
+opening-of s u n (Call.EraseSector offset) l = usage (record {
+  sort = refl;
+  opening = eraseUnit s EraseKind.Sector offset (afterUnit (s .device) EraseKind.Sector offset);
+  is = refl;
+  follows = λ h. erases-one s h EraseKind.Sector offset;
+  keeps = keeps-unit (Stays s) s (λ t phase h. (refl, h)) (λ answer. refl) (λ e. tt) EraseKind.Sector offset (afterUnit (s .device) EraseKind.Sector offset);
+  selects = selects-unit s EraseKind.Sector offset (afterUnit (s .device) EraseKind.Sector offset);
+  judges = refl;
+  tested = unit-tested s EraseKind.Sector offset (afterUnit (s .device) EraseKind.Sector offset);
+})
+opening-of s u n (Call.EraseBlock offset) l = usage (record {
+  sort = refl;
+  opening = eraseUnit s EraseKind.Block offset (afterUnit (s .device) EraseKind.Block offset);
+  is = refl;
+  follows = λ h. erases-one s h EraseKind.Block offset;
+  keeps = keeps-unit (Stays s) s (λ t phase h. (refl, h)) (λ answer. refl) (λ e. tt) EraseKind.Block offset (afterUnit (s .device) EraseKind.Block offset);
+  selects = selects-unit s EraseKind.Block offset (afterUnit (s .device) EraseKind.Block offset);
+  judges = refl;
+  tested = unit-tested s EraseKind.Block offset (afterUnit (s .device) EraseKind.Block offset);
+})

@@ -61,3 +61,9 @@ Built (Phase.Latching task) = Unit {0}
 Built (Phase.Sending task) = Unit {0}
 Built (Phase.Looking task waited) = Unit {0}
 Built (Phase.Pausing task waited) = Unit {0}
+
+-- the driver holds what it held when the call began, and the call is no construction
+abbrev pub Stays : Setup → Then → Type 0
+Stays s (Then.Go setup t phase) = (setup ≡ s) × Built phase
+Stays s (Then.End setup answer) = setup ≡ s
+Stays s (Then.Fail error) = Unit {0}

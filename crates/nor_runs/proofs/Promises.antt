@@ -1,6 +1,7 @@
 -- The promises over every run, from the program that each call follows.
 use Prim.Native.Nat.{ℕ, _+_, _≤_}
 use native.Mathlib.Omega.{arith}
+use mathlib.Core.Bool.{true}
 use mathlib.Core.Logic.{⊎-elim}
 use mathlib.Core.Path.{_≡_, refl, ap, sym, _∙_, subst}
 use mathlib.Core.List.{List, [], _∷_}
@@ -19,6 +20,7 @@ use Rattle.spi_flash.specs.Run.{Event, reply, call, delayAsked, Fitting, HasEnd
 use Rattle.spi_flash.specs.Machine.{Decision, more, well, bad, Config, machine, out, lentAs, settle, moved, Trail, decidedTrail, heardTrail, trail}
 use Rattle.spi_flash.proofs.Runs.{heard-view, first-delay, trail-asks, run-bound, run-ends}
 use Rattle.spi_flash.proofs.Reach.{reached}
+use Rattle.spi_nor.specs.Config.{inBoundsOf}
 use Rattle.nor_runs.specs.Bound.{delayBound, actionBound}
 use Rattle.nor_runs.specs.Program.{Left, programOf}
 use Rattle.nor_runs.specs.ProgramBounds.{Begins, CanEnd, judgedSetup}
@@ -30,7 +32,7 @@ use Rattle.nor_driver.specs.declared.state.SpiNorFlash.{SpiNorFlash}
 use Rattle.nor_runs.proofs.ProgramBounds.{program-bounds}
 use Rattle.nor_runs.proofs.Places.{Place, decideNext, Valid}
 use Rattle.nor_runs.proofs.Simulation.{meaning, simulates}
-use Rattle.nor_runs.proofs.Openings.{Opens, Nothing-begun, Judged, view}
+use Rattle.nor_runs.proofs.Views.{Opens, opens-run, Nothing-begun, view}
 
 -- ---- what is judged is what the program works on
 
@@ -71,7 +73,7 @@ same s (Call.Erase from to) = unchanged s (Call.Erase from to) refl
 same s (Call.EraseSector offset) = unchanged s (Call.EraseSector offset) refl
 same s (Call.EraseBlock offset) = unchanged s (Call.EraseBlock offset) refl
 
-module _ (s : Setup) (c : Call) (h : Judged s c) (b : ℕ) where
+module _ (s : Setup) (c : Call) (h : inBoundsOf (judgedSetup s c .device) ≡ true) (b : ℕ) where
   bounded-program : (d : ℕ) → Bounded delays (delayBound s c d) (programOf s c b d)
   bounded-program d = rw (same s c .bound d, same s c .program b d) at (program-bounds .bounded (judgedSetup s c) h c b d)
 
@@ -88,7 +90,7 @@ module _ (s : Setup) (c : Call) (h : Judged s c) (b : ℕ) where
 bounded-run : (flash : SpiNorFlash) (c : Call) (l : Lent) (o : Opens flash c l) (es : List (Event Call)) → delayAsked (runOf nor flash c l es) ≤ delayBound (flash .setup) c (length (l .given))
 unfolding delayAsked
 bounded-run flash c l o es =
-    rw (o .run es)
+    rw (opens-run o es)
     (omega (
       arith,
       first-delay (o .first) (l .scratch) (l .given),
@@ -119,9 +121,9 @@ comes-to flash c l small o =
     record {
       replies = r .0;
       real = r .1;
-      fits = λ ls n w. rw (o .run (answering (r .0) ls)) (r .2 .fits ls n w);
+      fits = λ ls n w. rw (opens-run o (answering (r .0) ls)) (r .2 .fits ls n w);
       asks = λ ls n w.
-          rw (o .run (answering (r .0) ls))
+          rw (opens-run o (answering (r .0) ls))
           (omega (arith, first-delay (o .first) (l .scratch) (l .given), trail-asks {C = Call} decideNext takes (o .at) (firstOf (o .first)) (answering (r .0) ls), r .2 .leads ls n w));
     }
 
@@ -131,10 +133,10 @@ run-has-ended : (flash : SpiNorFlash) (c : Call) (l : Lent) (es : List (Event Ca
     actionBound (flash .setup) c (length (l .buffer)) (length (l .given)) ≤ length es → HasEnded (runOf nor flash c l es)
 unfolding Fitting HasEnded
 run-has-ended flash c l es o fit long =
-    rw (o .run es)
+    rw (opens-run o es)
     (run-ends decideNext (takesOf c l) Valid meaning simulates (o .first) (o .at) (o .valid)
     (subst (Bounded actions (actionBound (flash .setup) c (length (l .buffer)) (length (l .given)))) (o .program) (acting-program (flash .setup) c (o .judged) (length (l .buffer)) (length (l .given))))
-    es (rw (o .run es) at fit) long)
+    es (rw (opens-run o es) at fit) long)
 
 -- ---- and ends well on some replies
 
@@ -190,7 +192,7 @@ comes-well flash c l small can o =
       replies = r .0;
       real = r .1;
       ends = λ ls n w.
-          rw (o .run (answering (r .0) ls))
+          rw (opens-run o (answering (r .0) ls))
           (ends-with (takesOf c l) (e .1) (o .at) (firstOf (o .first)) (answering (r .0) ls) (well-done (e .1) (e .0) _ _ (r .2 .leads ls n w)));
     }
 

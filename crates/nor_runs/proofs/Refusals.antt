@@ -7,22 +7,18 @@ use mathlib.Core.List.{List}
 use lib.ListN.{length}
 use lib.Dec.{ltb}
 use Rattle.qspi.specs.Choice.{pick}
-use Rattle.qspi.specs.Bus.{fitsOf}
 use Rattle.qspi.specs.Command.{scratchLeast}
 use Rattle.qspi.specs.Shown.{Shown}
-use Rattle.qspi.specs.Frame.{actionOf, exchangeOf, advancedOf, takenIn, gave, deliveredBy}
 use Rattle.qspi.specs.declared.bus.Reply.{Reply}
-use Rattle.qspi.specs.declared.frame.Advanced.{Advanced}
-use Rattle.spi_flash.specs.Loan.{Lent, readyOf}
+use Rattle.spi_flash.specs.Loan.{Lent}
 use Rattle.spi_flash.specs.Machine.{lentAs}
 use Rattle.spi_flash.specs.Run as Run
 use Rattle.spi_flash.specs.declared.error.FlashError.{FlashError}
 use Rattle.spi_flash.specs.declared.loan.Takes.{Takes}
-use Rattle.spi_flash.proofs.Cases.{by-cases}
 use Rattle.spi_nor.specs.Config.{inBoundsOf}
 use Rattle.spi_nor.specs.declared.config.SpiNorConfig.{SpiNorConfig}
 use Rattle.nor_driver.specs.Next.{nextOf}
-use Rattle.nor_driver.specs.Step.{flashOf, settledOf, afterwards, proceedOf, stepOf}
+use Rattle.nor_driver.specs.Step.{flashOf, settledOf, proceedOf, stepOf}
 use Rattle.nor_driver.specs.Call.{givenDevice, constructedOf, toldOf, freedOf, openedOf, begunOf, idleOf, beginOf}
 use Rattle.nor_driver.specs.declared.state.Answer.{Answer}
 use Rattle.nor_driver.specs.declared.state.Call.{Call}
@@ -35,6 +31,7 @@ use Rattle.nor_driver.specs.declared.state.Then.{Then}
 use Rattle.nor_runs.specs.Program.{Left}
 use Rattle.nor_runs.specs.Run.{begunAs, steppedAs, nor}
 use Rattle.nor_runs.specs.Promises.{RefusalsKeep}
+use Rattle.nor_runs.proofs.Steps.{step-view}
 
 Keeps : SpiNorFlash → Lent → Run.Moved SpiNorFlash Left → Type 0
 Keeps flash l m = (e : FlashError) → m .given ≡ Run.refused e → (m .flash ≡ flash) × (m .left ≡ l)
@@ -60,18 +57,12 @@ settled-kept flash kept takes (Then.Fail x) scratch buffer l k e h = absurd (fai
 
 busy-kept : (flash : SpiNorFlash) (job : Job) (r : Reply) (bytes : List ℕ) (l : Lent) →
     Keeps flash l (steppedAs (proceedOf flash job r bytes (l .scratch) (l .buffer) (l .given)) l)
-unfolding Keeps proceedOf exchangeOf
+unfolding Keeps
 busy-kept flash job r bytes l =
-    by-cases (readyOf (job .takes) (length (l .scratch)) (length (l .buffer)) (length (l .given)))
-    (λ ready. by-cases (fitsOf (actionOf (job .frame)) r (length bytes))
-    (λ fits. rw (ready, fits) (goes (advancedOf (job .frame) r bytes (l .given))))
-    (λ fits. rw (ready, fits) (λ e h. (refl, refl))))
-    (λ ready. rw ready (λ e h. (refl, refl)))
-  where
-    goes : (x : Advanced) → Keeps flash l
-        (steppedAs (afterwards flash job (deliveredBy (job .frame) r (length bytes) (length (l .buffer)) (flash .delivered)) (gave x (l .scratch) (takenIn (job .frame) r bytes (l .buffer)))) l)
-    goes (Advanced.More g) = λ e h. absurd (acts-not _ e h)
-    goes (Advanced.Over o) = settled-kept flash flash (job .takes) (nextOf (flash .setup) (job .phase) o) (l .scratch) (takenIn (job .frame) r bytes (l .buffer)) l l
+    step-view flash job r bytes l (Keeps flash l)
+    (λ e h. (refl, refl))
+    (λ g delivered scratch buffer e h. absurd (acts-not _ e h))
+    (λ o scratch buffer. settled-kept flash flash (job .takes) (nextOf (flash .setup) (job .phase) o) scratch buffer l l)
 
 reply-kept : (setup : Setup) (built : Bool) (delivered : ℕ) (running : Running) (r : Reply) (bytes : List ℕ) (l : Lent) →
     Keeps (flashOf setup built delivered running) l (nor .answer (flashOf setup built delivered running) r bytes l)

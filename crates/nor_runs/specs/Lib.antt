@@ -3,4 +3,5 @@ pub mod Program
 pub mod Bound
 pub mod ProgramBounds
 pub mod Run
+pub mod SameAsRust
 pub mod Promises

@@ -73,3 +73,29 @@ takesOf Call.Unprotect l = Takes.Nothing
 takesOf (Call.Erase from to) l = Takes.Nothing
 takesOf (Call.EraseSector offset) l = Takes.Nothing
 takesOf (Call.EraseBlock offset) l = Takes.Nothing
+
+-- what a call is to the driver: its construction, a look at what it holds, its release, or a use of the bus
+pub data Sort : Type 0 where
+  constructs tells releases uses : Sort
+
+abbrev pub sortOf : Call → Sort
+sortOf Call.New = constructs
+sortOf (Call.WithConfig config) = constructs
+sortOf Call.Config = tells
+sortOf Call.Device = tells
+sortOf Call.Id = tells
+sortOf Call.Free = releases
+sortOf Call.ReadStatus1 = uses
+sortOf Call.ReadStatus2 = uses
+sortOf Call.IsBusy = uses
+sortOf Call.JedecId = uses
+sortOf Call.UniqueId = uses
+sortOf Call.QuadEnabled = uses
+sortOf Call.EnableQuad = uses
+sortOf Call.DisableQuad = uses
+sortOf (Call.Read offset) = uses
+sortOf (Call.Write offset) = uses
+sortOf Call.Unprotect = uses
+sortOf (Call.Erase from to) = uses
+sortOf (Call.EraseSector offset) = uses
+sortOf (Call.EraseBlock offset) = uses

@@ -1,0 +1,41 @@
+-- What one reply can do to a running call: it is refused, the frame goes on, or the transfer is over.
+use Prim.Native.Nat.{ℕ}
+use mathlib.Core.Bool.{Bool, true, false}
+use mathlib.Core.Path.{_≡_, refl}
+use mathlib.Core.List.{List}
+use lib.ListN.{length}
+use Rattle.qspi.specs.Choice.{pick}
+use Rattle.qspi.specs.Bus.{fitsOf}
+use Rattle.qspi.specs.Frame.{actionOf, givenScratch, exchangeOf, advancedOf, takenIn, gave, deliveredBy}
+use Rattle.qspi.specs.declared.bus.Reply.{Reply}
+use Rattle.qspi.specs.declared.frame.Advanced.{Advanced}
+use Rattle.qspi.specs.declared.frame.Frame.{Frame}
+use Rattle.qspi.specs.declared.frame.Outcome.{Outcome}
+use Rattle.spi_flash.specs.Loan.{Lent, readyOf}
+use Rattle.spi_flash.specs.Run as Run
+use Rattle.spi_flash.specs.declared.error.FlashError.{FlashError}
+use Rattle.spi_flash.proofs.Cases.{by-cases}
+use Rattle.nor_driver.specs.Next.{nextOf}
+use Rattle.nor_driver.specs.Step.{movedTo, refusedOf, settledOf, gaveOf, afterwards, proceedOf}
+use Rattle.nor_driver.specs.declared.state.Job.{Job}
+use Rattle.nor_driver.specs.declared.state.SpiNorFlash.{SpiNorFlash}
+use Rattle.nor_runs.specs.Program.{Left}
+use Rattle.nor_runs.specs.Run.{steppedAs}
+
+module _ (flash : SpiNorFlash) (job : Job) (r : Reply) (bytes : List ℕ) (l : Lent) (P : Run.Moved SpiNorFlash Left → Type 0)
+    (refused : P (steppedAs (movedTo (refusedOf flash FlashError.Misfit) (l .scratch) (l .buffer)) l))
+    (goes : (g : Frame) (delivered : ℕ) (scratch buffer : List ℕ) → P (steppedAs (movedTo (gaveOf flash job g delivered (actionOf g)) scratch buffer) l))
+    (over : (o : Outcome) (scratch buffer : List ℕ) → P (steppedAs (movedTo (settledOf flash (job .takes) (nextOf (flash .setup) (job .phase) o)) scratch buffer) l)) where
+  pub step-view : P (steppedAs (proceedOf flash job r bytes (l .scratch) (l .buffer) (l .given)) l)
+  unfolding proceedOf exchangeOf
+  step-view =
+      by-cases (readyOf (job .takes) (length (l .scratch)) (length (l .buffer)) (length (l .given)))
+      (λ ready. by-cases (fitsOf (actionOf (job .frame)) r (length bytes))
+      (λ fits. rw (ready, fits) (at (advancedOf (job .frame) r bytes (l .given))))
+      (λ fits. rw (ready, fits) refused))
+      (λ ready. rw ready refused)
+    where
+      at : (x : Advanced) → P
+          (steppedAs (afterwards flash job (deliveredBy (job .frame) r (length bytes) (length (l .buffer)) (flash .delivered)) (gave x (l .scratch) (takenIn (job .frame) r bytes (l .buffer)))) l)
+      at (Advanced.More g) = goes g _ _ _
+      at (Advanced.Over o) = over o _ _
