@@ -1,13 +1,13 @@
 // One reply to the action that is out.
-use crate::next;
-use crate::state::Answer;
 use crate::state::Given;
 use crate::state::Job;
 use crate::state::Running;
-use crate::state::Setup;
 use crate::state::SpiNorFlash;
 use crate::state::Stepped;
-use crate::state::Then;
+use nor_phases::next;
+use nor_phases::setup::Answer;
+use nor_phases::setup::Setup;
+use nor_phases::setup::Then;
 use qspi::bus::Action;
 use qspi::bus::Reply;
 use qspi::frame;

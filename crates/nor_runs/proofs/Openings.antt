@@ -22,8 +22,8 @@ use Rattle.spi_flash.proofs.Cases.{by-cases}
 use Rattle.spi_nor.specs.Config.{inBoundsOf, singleConfig}
 use Rattle.spi_nor.specs.Command.{readIdCommand, readUniqueIdCommand}
 use Rattle.spi_nor.specs.declared.config.SpiNorConfig.{SpiNorConfig}
-use Rattle.nor_driver.specs.Transfer.{numberTransfer, inRange, multipleOf, unitSize, afterUnit}
-use Rattle.nor_driver.specs.Next.{goTo, endWith, read1Then, read2Then, readFrom, programFrom, eraseUnit, eraseFrom}
+use Rattle.nor_phases.specs.Transfer.{numberTransfer, inRange, multipleOf, unitSize, afterUnit}
+use Rattle.nor_phases.specs.Next.{goTo, endWith, read1Then, read2Then, readFrom, programFrom, eraseUnit, eraseFrom}
 use Rattle.nor_driver.specs.Step.{flashOf, settledOf}
 use Rattle.nor_driver.specs.Call.{givenDevice, freshSetup, constructedOf, toldOf, freedOf, openedOf, begunOf, readThen, writeThen, eraseThen, idleOf, beginOf}
 use Rattle.nor_runs.specs.Rust.{is-busy, jedec-id, unique-id, quad-enabled, enable-quad, disable-quad, read, reading, write, writing, erase-unit, erase, erasing, unprotect, with-config}
@@ -32,14 +32,14 @@ use Rattle.nor_runs.specs.Run.{begunAs, nor, takesOf}
 use Rattle.nor_runs.specs.ProgramBounds.{Begins, judgedSetup}
 use Rattle.nor_runs.specs.Promises.{GivesAction}
 use Rattle.qspi.specs.Choice.{pick}
-use Rattle.nor_driver.specs.declared.phase.EraseKind.{EraseKind}
-use Rattle.nor_driver.specs.declared.phase.Phase.{Phase}
-use Rattle.nor_driver.specs.declared.state.Answer.{Answer}
+use Rattle.nor_phases.specs.declared.phase.EraseKind.{EraseKind}
+use Rattle.nor_phases.specs.declared.phase.Phase.{Phase}
+use Rattle.nor_phases.specs.declared.setup.Answer.{Answer}
 use Rattle.nor_driver.specs.declared.state.Call.{Call}
 use Rattle.nor_driver.specs.declared.state.Running.{Running}
-use Rattle.nor_driver.specs.declared.state.Setup.{Setup}
+use Rattle.nor_phases.specs.declared.setup.Setup.{Setup}
 use Rattle.nor_driver.specs.declared.state.SpiNorFlash.{SpiNorFlash}
-use Rattle.nor_driver.specs.declared.state.Then.{Then}
+use Rattle.nor_phases.specs.declared.setup.Then.{Then}
 use Rattle.nor_runs.proofs.Loops.{erasing-loop}
 use Rattle.nor_runs.proofs.Simulation.{Place, place, decide, decideNext, meaning, Valid, then-assoc, starts, reads-on, writes-on, erases-unit, erases-on, keeps-read, keeps-program, keeps-unit, keeps-erase, keeps-pick, beginnings}
 use Rattle.nor_runs.proofs.Runs.{configOf, runs-same}
