@@ -1,6 +1,6 @@
 use borrow.Author.Needs.{needs}
-use Rattle.qspi.proofs.frame.value_of.Statement.{statement}
-use Rattle.qspi.proofs.frame.value_of.Tie as tie
+use Rattle.qspi.proofs.exchange.value_of.Statement.{statement}
+use Rattle.qspi.proofs.exchange.value_of.Tie as tie
 
 enum-told : tie.Need-enum-told
 enum-told c = search needs

@@ -1,6 +1,6 @@
 use borrow.Author.Needs.{needs}
-use Rattle.qspi.proofs.frame.next_stage.Statement.{statement}
-use Rattle.qspi.proofs.frame.next_stage.Tie as tie
+use Rattle.qspi.proofs.exchange.next_stage.Statement.{statement}
+use Rattle.qspi.proofs.exchange.next_stage.Tie as tie
 
 enum-told : tie.Need-enum-told
 enum-told c = search needs

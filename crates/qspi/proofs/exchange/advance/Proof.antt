@@ -1,7 +1,7 @@
 use Rattle.qspi.specs.Frame.{advancedOf}
 use borrow.Author.Needs.{needs}
-use Rattle.qspi.proofs.frame.advance.Statement.{statement}
-use Rattle.qspi.proofs.frame.advance.Tie as tie
+use Rattle.qspi.proofs.exchange.advance.Statement.{statement}
+use Rattle.qspi.proofs.exchange.advance.Tie as tie
 
 enum-told : tie.Need-enum-told
 enum-told c = search needs

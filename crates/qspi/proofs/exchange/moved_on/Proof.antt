@@ -1,6 +1,6 @@
 use borrow.Author.Needs.{needs}
-use Rattle.qspi.proofs.frame.moved_on.Statement.{statement}
-use Rattle.qspi.proofs.frame.moved_on.Tie as tie
+use Rattle.qspi.proofs.exchange.moved_on.Statement.{statement}
+use Rattle.qspi.proofs.exchange.moved_on.Tie as tie
 
 enum-known-following : tie.Need-enum-known-following
 enum-known-following c = search needs

@@ -1,7 +1,7 @@
 use Rattle.qspi.specs.Frame.{exchangeOf}
 use borrow.Author.Needs.{needs}
-use Rattle.qspi.proofs.frame.exchange.Statement.{statement}
-use Rattle.qspi.proofs.frame.exchange.Tie as tie
+use Rattle.qspi.proofs.exchange.exchange.Statement.{statement}
+use Rattle.qspi.proofs.exchange.exchange.Tie as tie
 
 pending-requires : tie.Need-pending-requires
 pending-requires c κs = search needs

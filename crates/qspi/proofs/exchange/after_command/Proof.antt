@@ -1,6 +1,6 @@
 use borrow.Author.Needs.{needs}
-use Rattle.qspi.proofs.frame.after_start.Statement.{statement}
-use Rattle.qspi.proofs.frame.after_start.Tie as tie
+use Rattle.qspi.proofs.exchange.after_command.Statement.{statement}
+use Rattle.qspi.proofs.exchange.after_command.Tie as tie
 
 enum-told : tie.Need-enum-told
 enum-told c = search needs
@@ -24,10 +24,10 @@ enum-told-7 : tie.Need-enum-told-7
 enum-told-7 c = search needs
 
 returns : tie.Need-returns
-returns c = search needs
+returns c = simp (c .enum-told .given .1)
 
 returns-2 : tie.Need-returns-2
-returns-2 c = search needs
+returns-2 c = simp (c .enum-told2 .given .1)
 
 returns-3 : tie.Need-returns-3
 returns-3 c = simp (c .enum-told3 .given .1)
@@ -44,8 +44,8 @@ returns-6 c = simp (c .enum-told6 .given .1)
 returns-7 : tie.Need-returns-7
 returns-7 c = simp (c .enum-told7 .given .1)
 
-pub after-start-spec : {M : Type 1} → statement M
-after-start-spec =
+pub after-command-spec : {M : Type 1} → statement M
+after-command-spec =
     tie.close
     (tie.spec
     enum-told
