@@ -9,22 +9,22 @@ use Rattle.spi_flash.specs.declared.error.FlashError.{FlashError}
 use Rattle.spi_flash.specs.declared.loan.Takes.{Takes}
 use Rattle.spi_nor.specs.Config.{w25q128jv, inBoundsOf, singleConfig, jedecId}
 use Rattle.spi_nor.specs.Command.{readIdCommand, readUniqueIdCommand}
-use Rattle.nor_driver.specs.Transfer.{numberTransfer, inRange, multipleOf, afterUnit}
-use Rattle.nor_driver.specs.Next.{goTo, read1Then, read2Then, readFrom, programFrom, eraseUnit, eraseFrom}
-use Rattle.nor_driver.specs.Step.{flashOf, refusedOf, settledOf}
 use Rattle.spi_nor.specs.declared.config.DeviceSetting.{DeviceSetting}
 use Rattle.spi_nor.specs.declared.config.NorDeviceInfo.{NorDeviceInfo}
 use Rattle.spi_nor.specs.declared.config.SpiNorConfig.{SpiNorConfig}
-use Rattle.nor_driver.specs.declared.phase.EraseKind.{EraseKind}
-use Rattle.nor_driver.specs.declared.phase.Phase.{Phase}
-use Rattle.nor_driver.specs.declared.state.Answer.{Answer}
+use Rattle.nor_phases.specs.Transfer.{numberTransfer, inRange, multipleOf, afterUnit}
+use Rattle.nor_phases.specs.Next.{goTo, read1Then, read2Then, readFrom, programFrom, eraseUnit, eraseFrom}
+use Rattle.nor_phases.specs.declared.phase.EraseKind.{EraseKind}
+use Rattle.nor_phases.specs.declared.phase.Phase.{Phase}
+use Rattle.nor_phases.specs.declared.setup.Answer.{Answer}
+use Rattle.nor_phases.specs.declared.setup.Setup.{Setup}
+use Rattle.nor_phases.specs.declared.setup.Then.{Then}
+use Rattle.nor_driver.specs.Step.{flashOf, refusedOf, settledOf}
 use Rattle.nor_driver.specs.declared.state.Call.{Call}
 use Rattle.nor_driver.specs.declared.state.Given.{Given}
 use Rattle.nor_driver.specs.declared.state.Running.{Running}
-use Rattle.nor_driver.specs.declared.state.Setup.{Setup}
 use Rattle.nor_driver.specs.declared.state.SpiNorFlash.{SpiNorFlash}
 use Rattle.nor_driver.specs.declared.state.Stepped.{Stepped}
-use Rattle.nor_driver.specs.declared.state.Then.{Then}
 
 -- with_config: what stands in the struct before the id is known
 abbrev pub givenAt : DeviceSetting → NorDeviceInfo

@@ -12,15 +12,15 @@ use Rattle.qspi.specs.declared.frame.Frame.{Frame}
 use Rattle.spi_flash.specs.Loan.{readyOf}
 use Rattle.spi_flash.specs.declared.error.FlashError.{FlashError}
 use Rattle.spi_flash.specs.declared.loan.Takes.{Takes}
-use Rattle.nor_driver.specs.Next.{nextOf}
-use Rattle.nor_driver.specs.declared.state.Answer.{Answer}
+use Rattle.nor_phases.specs.Next.{nextOf}
+use Rattle.nor_phases.specs.declared.setup.Answer.{Answer}
+use Rattle.nor_phases.specs.declared.setup.Setup.{Setup}
+use Rattle.nor_phases.specs.declared.setup.Then.{Then}
 use Rattle.nor_driver.specs.declared.state.Given.{Given}
 use Rattle.nor_driver.specs.declared.state.Job.{Job}
 use Rattle.nor_driver.specs.declared.state.Running.{Running}
-use Rattle.nor_driver.specs.declared.state.Setup.{Setup}
 use Rattle.nor_driver.specs.declared.state.SpiNorFlash.{SpiNorFlash}
 use Rattle.nor_driver.specs.declared.state.Stepped.{Stepped}
-use Rattle.nor_driver.specs.declared.state.Then.{Then}
 
 -- the result of a step, and the lent bytes after it
 pub record Moved : Type 0 where

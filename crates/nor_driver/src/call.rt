@@ -1,17 +1,17 @@
 // How each call begins.
-use crate::next;
-use crate::phase::EraseKind;
-use crate::phase::Phase;
-use crate::state::Answer;
 use crate::state::Call;
 use crate::state::Given;
 use crate::state::Running;
-use crate::state::Setup;
 use crate::state::SpiNorFlash;
 use crate::state::Stepped;
-use crate::state::Then;
 use crate::step;
-use crate::transfer;
+use nor_phases::next;
+use nor_phases::phase::EraseKind;
+use nor_phases::phase::Phase;
+use nor_phases::setup::Answer;
+use nor_phases::setup::Setup;
+use nor_phases::setup::Then;
+use nor_phases::transfer;
 use qspi::command::SCRATCH_LEN;
 use qspi::transfer::Transfer;
 use spi_flash::error::FlashError;

@@ -1,8 +1,5 @@
 // SpiNorFlash (nor/driver.rs) as a machine that the host steps: each bus call of the Rust is an action given out.
 pub mod call;
 pub mod named;
-pub mod next;
-pub mod phase;
 pub mod state;
 pub mod step;
-pub mod transfer;

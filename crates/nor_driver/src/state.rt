@@ -1,20 +1,12 @@
-// The driver's state, its calls and its answers.
-use crate::phase::Phase;
+// The driver's state, its calls and what a step gives.
+use nor_phases::phase::Phase;
+use nor_phases::setup::Answer;
+use nor_phases::setup::Setup;
 use qspi::bus::Action;
 use qspi::frame::Frame;
-use qspi::transfer::Transfer;
 use spi_flash::error::FlashError;
 use spi_flash::loan::Takes;
-use spi_nor::config::NorDeviceInfo;
-use spi_nor::config::NorJedecId;
 use spi_nor::config::SpiNorConfig;
-
-// What the Rust's struct holds beside its bus.
-pub struct Setup {
-    pub config: SpiNorConfig,
-    pub device: NorDeviceInfo,
-    pub id: NorJedecId,
-}
 
 // A call under way.
 pub struct Job {
@@ -60,18 +52,6 @@ pub enum Call {
     EraseBlock { offset: u32 },
 }
 
-// What a call that succeeds answers.
-pub enum Answer {
-    Done,
-    Byte(u8),
-    Flag(bool),
-    Id(NorJedecId),
-    UniqueId(u64),
-    Unprotected { before: u8, after: u8 },
-    Device(NorDeviceInfo),
-    Config(SpiNorConfig),
-}
-
 pub enum Given {
     Act(Action),
     // The call has succeeded.
@@ -85,18 +65,4 @@ pub enum Given {
 pub struct Stepped {
     pub flash: SpiNorFlash,
     pub given: Given,
-}
-
-// What follows a transfer: another one, or the call's end.
-pub enum Then {
-    Go {
-        setup: Setup,
-        transfer: Transfer,
-        phase: Phase,
-    },
-    End {
-        setup: Setup,
-        answer: Answer,
-    },
-    Fail(FlashError),
 }

@@ -1,19 +1,19 @@
 // One reply to the action that is out.
-use crate::next;
-use crate::state::Answer;
 use crate::state::Given;
 use crate::state::Job;
 use crate::state::Running;
-use crate::state::Setup;
 use crate::state::SpiNorFlash;
 use crate::state::Stepped;
-use crate::state::Then;
+use nor_phases::next;
+use nor_phases::setup::Answer;
+use nor_phases::setup::Setup;
+use nor_phases::setup::Then;
 use qspi::bus::Action;
 use qspi::bus::Reply;
+use qspi::exchange;
 use qspi::frame;
 use qspi::frame::Exchanged;
 use qspi::frame::Frame;
-use qspi::frame::Outcome;
 use spi_flash::error::FlashError;
 use spi_flash::loan;
 use spi_flash::loan::Takes;
@@ -128,9 +128,9 @@ fn proceed(
 {
     let out = job.frame;
     let takes = job.takes;
-    let delivered = frame::delivered_by(out, reply, bytes.len(), buffer.len(), flash.delivered);
+    let delivered = exchange::delivered_by(out, reply, bytes.len(), buffer.len(), flash.delivered);
     if loan::ready(takes, scratch.len(), buffer.len(), data.len()) {
-        match frame::exchange(out, reply, bytes, scratch, buffer, data) {
+        match exchange::exchange(out, reply, bytes, scratch, buffer, data) {
             Exchanged::Misfit => refused(flash, FlashError::Misfit),
             Exchanged::Gave { frame, action } => gave(flash, job, frame, delivered, action),
             Exchanged::Over(outcome) => {

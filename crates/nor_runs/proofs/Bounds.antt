@@ -17,10 +17,10 @@ use Rattle.spi_flash.proofs.Laws.{bounded-more, bounded-ret, bounded-fail, boun
 use Rattle.spi_nor.specs.Status.{quadEnabled1Of, quadEnabled2Of, unprotected1Of, unprotected2Of}
 use Rattle.spi_nor.specs.Config.{singleConfig, inBoundsOf}
 use Rattle.spi_nor.specs.Opcode.{MAX-BULK-LEN}
-use Rattle.nor_driver.specs.Transfer.{numberTransfer, chunkOf, pageOf, readAt, readTransfer, programAt, programTransfer, eraseTransfer, eraseOperation, multipleOf, stepKind, afterUnit}
+use Rattle.nor_phases.specs.Transfer.{numberTransfer, chunkOf, pageOf, readAt, readTransfer, programAt, programTransfer, eraseTransfer, eraseOperation, multipleOf, stepKind, afterUnit}
 use Rattle.spi_nor.specs.WaitTable.{largestOf}
 use Rattle.nor_driver.specs.Call.{givenAt}
-use Rattle.nor_driver.specs.Next.{deviceAt, deviceFor, idOf}
+use Rattle.nor_phases.specs.Next.{deviceAt, deviceFor, idOf}
 use Rattle.nor_runs.specs.Rust.{read-status1, read-status2, is-busy, wait-ready, write-enable, write-status1, write-status2, jedec-id, unique-id, quad-enabled, enable-quad, disable-quad, reading, read, read-back, page-program, writing, write, erase-unit, erase-loop, erasing, erase, unprotect, quad-if, with-config}
 use Rattle.nor_runs.specs.Program.{programOf}
 use Rattle.nor_runs.specs.Bound.{pageTaken, quadBound, unitBound, eraseSum, delayBound, waitActions, unitActions, quadActions, pieces, actionBound}
@@ -29,12 +29,12 @@ use Rattle.spi_nor.specs.declared.config.NorJedecId.{NorJedecId}
 use Rattle.spi_nor.specs.declared.config.NorQuadConfig.{NorQuadConfig}
 use Rattle.spi_nor.specs.declared.config.QuadSetting.{QuadSetting}
 use Rattle.spi_nor.specs.declared.config.SpiNorConfig.{SpiNorConfig}
-use Rattle.nor_driver.specs.declared.phase.EraseKind.{EraseKind}
+use Rattle.nor_phases.specs.declared.phase.EraseKind.{EraseKind}
 use Rattle.nor_driver.specs.declared.state.Call.{Call}
-use Rattle.nor_driver.specs.declared.state.Setup.{Setup}
+use Rattle.nor_phases.specs.declared.setup.Setup.{Setup}
 use Rattle.spi_nor.specs.declared.opcode.Operation.{Operation}
 use Rattle.spi_nor.proofs.DeviceBounds.{deviceBounds}
-use Rattle.nor_driver.proofs.Pieces.{chunk-left, page-whole}
+use Rattle.nor_phases.proofs.Pieces.{chunk-left, page-whole}
 use Rattle.nor_runs.proofs.Loops.{reading-loop, writing-loop}
 use Rattle.nor_runs.proofs.Waits.{wait-delays, wait-actions}
 

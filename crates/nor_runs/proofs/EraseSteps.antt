@@ -9,9 +9,9 @@ use borrow.Author.Tests.{leb-true, le-leb, eq-eqb}
 use Rattle.qspi.specs.Choice.{pick}
 use Rattle.spi_flash.proofs.Cases.{by-order}
 use Rattle.spi_nor.specs.Config.{inBoundsOf}
-use Rattle.nor_driver.specs.Transfer.{inRange, multipleOf, unitSize, stepKind}
+use Rattle.nor_phases.specs.Transfer.{inRange, multipleOf, unitSize, stepKind}
 use Rattle.spi_nor.specs.declared.config.NorDeviceInfo.{NorDeviceInfo}
-use Rattle.nor_driver.specs.declared.phase.EraseKind.{EraseKind}
+use Rattle.nor_phases.specs.declared.phase.EraseKind.{EraseKind}
 use Rattle.spi_nor.proofs.DeviceBounds.{deviceBounds}
 
 pub range-in : (capacity offset n : ℕ) → offset + n ≤ capacity → inRange capacity offset n ≡ true

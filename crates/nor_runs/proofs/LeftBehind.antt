@@ -16,19 +16,19 @@ use Rattle.spi_flash.specs.Run as Run
 use Rattle.spi_flash.specs.Run.{Event, reply, call, goesOn, atOnce, callOf, stateAfter}
 use Rattle.spi_flash.specs.Seen.{toldThen, told}
 use Rattle.spi_flash.specs.declared.loan.Takes.{Takes}
-use Rattle.nor_driver.specs.Next.{nextOf}
+use Rattle.nor_phases.specs.Next.{nextOf}
 use Rattle.nor_driver.specs.Step.{flashOf, movedTo, settledOf, proceedOf, stepOf}
 use Rattle.nor_driver.specs.Call.{beginOf}
 use Rattle.nor_runs.specs.Program.{Left}
 use Rattle.nor_runs.specs.Run.{Sort, constructs, tells, releases, uses, sortOf, steppedAs, nor, takesOf}
 use Rattle.nor_runs.specs.SameAsRust.{Ready, Usable, flashAfter, driverOf, leftBy, madeBy, driverAfter}
-use Rattle.nor_driver.specs.declared.phase.Phase.{Phase}
+use Rattle.nor_phases.specs.declared.phase.Phase.{Phase}
 use Rattle.nor_driver.specs.declared.state.Call.{Call}
 use Rattle.nor_driver.specs.declared.state.Job.{Job}
 use Rattle.nor_driver.specs.declared.state.Running.{Running}
-use Rattle.nor_driver.specs.declared.state.Setup.{Setup}
+use Rattle.nor_phases.specs.declared.setup.Setup.{Setup}
 use Rattle.nor_driver.specs.declared.state.SpiNorFlash.{SpiNorFlash}
-use Rattle.nor_driver.specs.declared.state.Then.{Then}
+use Rattle.nor_phases.specs.declared.setup.Then.{Then}
 use Rattle.nor_runs.proofs.Places.{Built, Stays}
 use Rattle.nor_runs.proofs.Keeps.{keeps-built}
 use Rattle.nor_runs.proofs.Steps.{step-view}

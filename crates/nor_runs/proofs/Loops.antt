@@ -11,11 +11,11 @@ use Rattle.qspi.specs.declared.transfer.Sink.{Sink}
 use Rattle.spi_flash.specs.Prog.{Prog, ret, _>>=_, _>>_, if_then_else_, refuse, transfer}
 use Rattle.spi_nor.specs.Opcode.{MAX-BULK-LEN}
 use Rattle.spi_nor.specs.Config.{inBoundsOf}
-use Rattle.nor_driver.specs.Transfer.{placeOf, chunkOf, pageOf, readTransfer, inRange, unitSize, stepKind, afterUnit}
+use Rattle.nor_phases.specs.Transfer.{placeOf, chunkOf, pageOf, readTransfer, inRange, unitSize, stepKind, afterUnit}
 use Rattle.nor_runs.specs.Rust.{Nothing, read-loop, reading, page-program, write-loop, writing, erase-unit, erase-loop, erasing}
 use Rattle.spi_nor.specs.declared.config.NorDeviceInfo.{NorDeviceInfo}
-use Rattle.nor_driver.specs.declared.phase.EraseKind.{EraseKind}
-use Rattle.nor_driver.specs.declared.state.Setup.{Setup}
+use Rattle.nor_phases.specs.declared.phase.EraseKind.{EraseKind}
+use Rattle.nor_phases.specs.declared.setup.Setup.{Setup}
 use Rattle.spi_nor.proofs.DeviceBounds.{deviceBounds}
 
 -- ---- a turn goes on

@@ -22,22 +22,22 @@ use Rattle.spi_nor.specs.Config.{inBoundsOf, singleConfig}
 use Rattle.spi_nor.specs.Command.{readIdCommand, readUniqueIdCommand}
 use Rattle.spi_nor.specs.declared.config.QuadSetting.{QuadSetting}
 use Rattle.spi_nor.specs.declared.config.SpiNorConfig.{SpiNorConfig}
-use Rattle.nor_driver.specs.Transfer.{numberTransfer, placeOf, chunkOf, readAt, readTransfer, inRange, multipleOf, unitSize, stepKind, afterUnit}
-use Rattle.nor_driver.specs.Next.{goTo, read1Then, read2Then, readFrom, programFrom, eraseUnit, eraseFrom}
+use Rattle.nor_phases.specs.Transfer.{numberTransfer, placeOf, chunkOf, readAt, readTransfer, inRange, multipleOf, unitSize, stepKind, afterUnit}
+use Rattle.nor_phases.specs.Next.{goTo, read1Then, read2Then, readFrom, programFrom, eraseUnit, eraseFrom}
 use Rattle.nor_driver.specs.Step.{flashOf}
 use Rattle.nor_driver.specs.Call.{givenDevice, freshSetup, constructedOf, toldOf, freedOf, begunOf, readThen, writeThen, eraseThen, idleOf, beginOf}
 use Rattle.nor_runs.specs.Rust.{read, write, erase-unit, erase, erasing}
 use Rattle.nor_runs.specs.Program.{Left, leaving, programOf}
 use Rattle.nor_runs.specs.Run.{Sort, constructs, tells, releases, uses, sortOf, begunAs, nor, takesOf}
 use Rattle.nor_runs.specs.ProgramBounds.{Begins, judgedSetup}
-use Rattle.nor_driver.specs.declared.phase.EraseKind.{EraseKind}
-use Rattle.nor_driver.specs.declared.phase.Phase.{Phase}
-use Rattle.nor_driver.specs.declared.state.Answer.{Answer}
+use Rattle.nor_phases.specs.declared.phase.EraseKind.{EraseKind}
+use Rattle.nor_phases.specs.declared.phase.Phase.{Phase}
+use Rattle.nor_phases.specs.declared.setup.Answer.{Answer}
 use Rattle.nor_driver.specs.declared.state.Call.{Call}
 use Rattle.nor_driver.specs.declared.state.Running.{Running}
-use Rattle.nor_driver.specs.declared.state.Setup.{Setup}
+use Rattle.nor_phases.specs.declared.setup.Setup.{Setup}
 use Rattle.nor_driver.specs.declared.state.SpiNorFlash.{SpiNorFlash}
-use Rattle.nor_driver.specs.declared.state.Then.{Then}
+use Rattle.nor_phases.specs.declared.setup.Then.{Then}
 use Rattle.nor_runs.proofs.Loops.{erasing-loop}
 use Rattle.nor_runs.proofs.Places.{place, decide, Stays}
 use Rattle.nor_runs.proofs.Keeps.{keeps-read, keeps-program, keeps-unit, keeps-erase, keeps-pick}

@@ -27,7 +27,7 @@ use Rattle.nor_runs.specs.ProgramBounds.{Begins, CanEnd, judgedSetup}
 use Rattle.nor_runs.specs.Run.{nor, takesOf}
 use Rattle.nor_runs.specs.Promises.{Begun, ComesTo, answeredThen, EndsWith, EndsWell, Demand3}
 use Rattle.nor_driver.specs.declared.state.Call.{Call}
-use Rattle.nor_driver.specs.declared.state.Setup.{Setup}
+use Rattle.nor_phases.specs.declared.setup.Setup.{Setup}
 use Rattle.nor_driver.specs.declared.state.SpiNorFlash.{SpiNorFlash}
 use Rattle.nor_runs.proofs.ProgramBounds.{program-bounds}
 use Rattle.nor_runs.proofs.Places.{Place, decideNext, Valid}

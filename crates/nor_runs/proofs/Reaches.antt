@@ -20,9 +20,9 @@ use Rattle.spi_flash.proofs.Laws.{ends-ret, ends-bind, ends-then, ends-eq, ends
 use Rattle.spi_nor.specs.Opcode.{MAX-BULK-LEN}
 use Rattle.spi_nor.specs.Status.{busyOf, writeEnabledOf, quadEnabled1Of, quadEnabled2Of, unprotected1Of, unprotected2Of}
 use Rattle.spi_nor.specs.Config.{fromJedec, singleConfig, inBoundsOf}
-use Rattle.nor_driver.specs.Transfer.{placeOf, chunkOf, readAt, readTransfer, programAt, programTransfer, inRange, multipleOf, unitSize, stepKind, afterUnit}
+use Rattle.nor_phases.specs.Transfer.{placeOf, chunkOf, readAt, readTransfer, programAt, programTransfer, inRange, multipleOf, unitSize, stepKind, afterUnit}
 use Rattle.nor_driver.specs.Call.{givenAt}
-use Rattle.nor_driver.specs.Next.{byteOf, deviceAt, deviceFor, idOf, knownAs}
+use Rattle.nor_phases.specs.Next.{byteOf, deviceAt, deviceFor, idOf, knownAs}
 use Rattle.nor_driver.specs.Call.{freshSetup}
 use Rattle.nor_runs.specs.Rust.{read-status1, read-status2, is-busy, write-enable, write-status1, write-status2, jedec-id, unique-id, quad-enabled, enable-quad, disable-quad, reading, read, read-back, page-program, writing, write, erase-unit, erase-loop, erasing, erase, unprotect, quad-if, with-config}
 use Rattle.nor_runs.specs.Program.{Left, programOf}
@@ -31,12 +31,12 @@ use Rattle.nor_runs.specs.ProgramBounds.{Begins, CanEnd}
 use Rattle.spi_nor.specs.declared.config.DeviceSetting.{DeviceSetting}
 use Rattle.spi_nor.specs.declared.config.QuadSetting.{QuadSetting}
 use Rattle.spi_nor.specs.declared.config.SpiNorConfig.{SpiNorConfig}
-use Rattle.nor_driver.specs.declared.phase.EraseKind.{EraseKind}
+use Rattle.nor_phases.specs.declared.phase.EraseKind.{EraseKind}
 use Rattle.nor_driver.specs.declared.state.Call.{Call}
-use Rattle.nor_driver.specs.declared.state.Setup.{Setup}
+use Rattle.nor_phases.specs.declared.setup.Setup.{Setup}
 use Rattle.spi_nor.specs.declared.opcode.Operation.{Operation}
 use Rattle.spi_nor.proofs.DeviceBounds.{deviceBounds}
-use Rattle.nor_driver.proofs.Pieces.{chunk-left, page-whole}
+use Rattle.nor_phases.proofs.Pieces.{chunk-left, page-whole}
 use Rattle.nor_runs.proofs.Loops.{reading-loop, writing-loop, in-range, after-unit}
 use Rattle.nor_runs.proofs.Waits.{wait-ends}
 use Rattle.nor_runs.proofs.Replies.{byte, three-zeros, eight-zeros, delivery, same-bytes}

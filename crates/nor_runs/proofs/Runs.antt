@@ -21,16 +21,16 @@ use Rattle.spi_flash.specs.declared.error.FlashError.{FlashError}
 use Rattle.spi_flash.specs.declared.loan.Takes.{Takes}
 use Rattle.spi_flash.proofs.Cases.{by-cases}
 use Rattle.nor_driver.specs.Step.{flashOf, settledOf, exchangedThen, afterwards, proceedOf, stepOf}
-use Rattle.nor_driver.specs.Next.{nextOf}
+use Rattle.nor_phases.specs.Next.{nextOf}
 use Rattle.nor_driver.specs.Call.{beginOf}
 use Rattle.nor_runs.specs.Program.{Left, leaving}
 use Rattle.nor_runs.specs.Run.{givenAs, steppedAs, isRunning, nor}
 use Rattle.nor_driver.specs.declared.state.Call.{Call}
 use Rattle.nor_driver.specs.declared.state.Job.{Job}
 use Rattle.nor_driver.specs.declared.state.Running.{Running}
-use Rattle.nor_driver.specs.declared.state.Setup.{Setup}
+use Rattle.nor_phases.specs.declared.setup.Setup.{Setup}
 use Rattle.nor_driver.specs.declared.state.SpiNorFlash.{SpiNorFlash}
-use Rattle.nor_driver.specs.declared.state.Then.{Then}
+use Rattle.nor_phases.specs.declared.setup.Then.{Then}
 use Rattle.nor_runs.proofs.Places.{Place, place, decide, decideNext}
 
 -- a driver as the machine sees it

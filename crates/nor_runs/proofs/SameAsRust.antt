@@ -18,7 +18,7 @@ use Rattle.nor_runs.specs.Program.{Left, programOf}
 use Rattle.nor_runs.specs.Run.{Sort, constructs, tells, releases, uses, sortOf, nor, takesOf}
 use Rattle.nor_runs.specs.SameAsRust.{Ready, Regular, rustCall, driverOf, leftBy, driverAfter, Turn, turnSteps, turnAfter, Orderly, session, holding, rustTurn, rustSession, Demand2}
 use Rattle.nor_driver.specs.declared.state.Call.{Call}
-use Rattle.nor_driver.specs.declared.state.Setup.{Setup}
+use Rattle.nor_phases.specs.declared.setup.Setup.{Setup}
 use Rattle.nor_driver.specs.declared.state.SpiNorFlash.{SpiNorFlash}
 use Rattle.nor_runs.proofs.Places.{decideNext, Valid}
 use Rattle.nor_runs.proofs.Simulation.{meaning, simulates}

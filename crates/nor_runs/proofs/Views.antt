@@ -28,16 +28,16 @@ use Rattle.nor_runs.specs.Run.{Sort, constructs, tells, releases, uses, 
 use Rattle.nor_runs.specs.ProgramBounds.{Begins, judgedSetup}
 use Rattle.nor_runs.specs.Promises.{GivesAction}
 use Rattle.nor_runs.specs.SameAsRust.{Ready, Usable}
-use Rattle.nor_driver.specs.declared.phase.Phase.{Phase}
-use Rattle.nor_driver.specs.declared.state.Answer.{Answer}
+use Rattle.nor_phases.specs.declared.phase.Phase.{Phase}
+use Rattle.nor_phases.specs.declared.setup.Answer.{Answer}
 use Rattle.nor_driver.specs.declared.state.Call.{Call}
 use Rattle.nor_driver.specs.declared.state.Given.{Given}
 use Rattle.nor_driver.specs.declared.state.Job.{Job}
 use Rattle.nor_driver.specs.declared.state.Running.{Running}
-use Rattle.nor_driver.specs.declared.state.Setup.{Setup}
+use Rattle.nor_phases.specs.declared.setup.Setup.{Setup}
 use Rattle.nor_driver.specs.declared.state.SpiNorFlash.{SpiNorFlash}
 use Rattle.nor_driver.specs.declared.state.Stepped.{Stepped}
-use Rattle.nor_driver.specs.declared.state.Then.{Then}
+use Rattle.nor_phases.specs.declared.setup.Then.{Then}
 use Rattle.nor_runs.proofs.Places.{Place, place, decide, decideNext, Valid, Built, Stays}
 use Rattle.nor_runs.proofs.Simulation.{meaning}
 use Rattle.nor_runs.proofs.Runs.{configOf, runs-same}

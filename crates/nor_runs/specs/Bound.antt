@@ -4,15 +4,15 @@ use mathlib.Core.Bool.{Bool, true, false}
 use lib.Dec.{ltb, leb}
 use Rattle.qspi.specs.Choice.{pick}
 use Rattle.spi_nor.specs.Opcode.{MAX-BULK-LEN}
-use Rattle.nor_driver.specs.Transfer.{eraseOperation, stepKind, afterUnit}
+use Rattle.nor_phases.specs.Transfer.{eraseOperation, stepKind, afterUnit}
 use Rattle.spi_nor.specs.WaitTable.{looksOf}
 use Rattle.spi_nor.specs.declared.config.DeviceSetting.{DeviceSetting}
 use Rattle.spi_nor.specs.declared.config.NorDeviceInfo.{NorDeviceInfo}
 use Rattle.spi_nor.specs.declared.config.QuadSetting.{QuadSetting}
 use Rattle.spi_nor.specs.declared.config.SpiNorConfig.{SpiNorConfig}
-use Rattle.nor_driver.specs.declared.phase.EraseKind.{EraseKind}
+use Rattle.nor_phases.specs.declared.phase.EraseKind.{EraseKind}
 use Rattle.nor_driver.specs.declared.state.Call.{Call}
-use Rattle.nor_driver.specs.declared.state.Setup.{Setup}
+use Rattle.nor_phases.specs.declared.setup.Setup.{Setup}
 use Rattle.spi_nor.specs.declared.opcode.Operation.{Operation}
 
 -- "NOR construction 200,000 with quad and a page of at most 512, else 0": a detected device has a page of 256

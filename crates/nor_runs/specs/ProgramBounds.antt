@@ -9,12 +9,12 @@ use lib.ListN.{length}
 use Rattle.qspi.specs.Bytes.{AllBytes}
 use Rattle.spi_flash.specs.Path.{delays, actions, Bounded, Reaches, Ends}
 use Rattle.spi_nor.specs.Config.{singleConfig, inBoundsOf}
-use Rattle.nor_driver.specs.Transfer.{inRange, multipleOf}
+use Rattle.nor_phases.specs.Transfer.{inRange, multipleOf}
 use Rattle.nor_driver.specs.Call.{givenDevice, freshSetup}
 use Rattle.nor_runs.specs.Bound.{pageTaken, delayBound, actionBound}
 use Rattle.nor_runs.specs.Program.{Left, programOf}
 use Rattle.nor_driver.specs.declared.state.Call.{Call}
-use Rattle.nor_driver.specs.declared.state.Setup.{Setup}
+use Rattle.nor_phases.specs.declared.setup.Setup.{Setup}
 
 -- a unit of erase or program that the Rust takes: in range, then aligned
 abbrev pub UnitFits : Setup → ℕ → ℕ → Type 0

@@ -13,14 +13,14 @@ use Rattle.spi_nor.specs.Opcode.{timingsOf}
 use Rattle.spi_nor.specs.Status.{busyOf, writeEnabledOf, quadEnabled1Of, quadEnabled2Of, withQuad1Of, withQuad2Of, withoutQuad1Of, withoutQuad2Of, unprotected1Of, unprotected2Of}
 use Rattle.spi_nor.specs.Config.{singleConfig}
 use Rattle.spi_nor.specs.Command.{writeEnableCommand, readStatus1Command, readStatus2Command, writeStatus1Command, writeStatus2Command, readIdCommand, readUniqueIdCommand}
-use Rattle.nor_driver.specs.Transfer.{numberTransfer, placeOf, chunkOf, pageOf, readTransfer, programTransfer, eraseTransfer, eraseOperation, inRange, multipleOf, unitSize, stepKind, afterUnit}
-use Rattle.nor_driver.specs.Next.{MAX-VERIFY-PAGE-SIZE, byteOf, idOf, deviceFor, knownAs}
+use Rattle.nor_phases.specs.Transfer.{numberTransfer, placeOf, chunkOf, pageOf, readTransfer, programTransfer, eraseTransfer, eraseOperation, inRange, multipleOf, unitSize, stepKind, afterUnit}
+use Rattle.nor_phases.specs.Next.{MAX-VERIFY-PAGE-SIZE, byteOf, idOf, deviceFor, knownAs}
 use Rattle.nor_driver.specs.Call.{freshSetup}
 use Rattle.spi_nor.specs.declared.config.NorJedecId.{NorJedecId}
 use Rattle.spi_nor.specs.declared.config.QuadSetting.{QuadSetting}
 use Rattle.spi_nor.specs.declared.config.SpiNorConfig.{SpiNorConfig}
-use Rattle.nor_driver.specs.declared.phase.EraseKind.{EraseKind}
-use Rattle.nor_driver.specs.declared.state.Setup.{Setup}
+use Rattle.nor_phases.specs.declared.phase.EraseKind.{EraseKind}
+use Rattle.nor_phases.specs.declared.setup.Setup.{Setup}
 use Rattle.spi_nor.specs.declared.opcode.Operation.{Operation}
 
 abbrev pub Nothing : Type 0

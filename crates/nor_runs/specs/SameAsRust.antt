@@ -18,7 +18,7 @@ use Rattle.nor_runs.specs.ProgramBounds.{judgedSetup}
 use Rattle.nor_runs.specs.Run.{nor, Sort, constructs, tells, releases, uses, sortOf}
 use Rattle.nor_driver.specs.declared.state.Call.{Call}
 use Rattle.nor_driver.specs.declared.state.Running.{Running}
-use Rattle.nor_driver.specs.declared.state.Setup.{Setup}
+use Rattle.nor_phases.specs.declared.setup.Setup.{Setup}
 use Rattle.nor_driver.specs.declared.state.SpiNorFlash.{SpiNorFlash}
 
 -- ---- one call

@@ -2,5 +2,6 @@
 pub mod bus;
 pub mod bytes;
 pub mod command;
+pub mod exchange;
 pub mod frame;
 pub mod transfer;

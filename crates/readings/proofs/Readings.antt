@@ -1,7 +1,7 @@
 -- The readings, by computation.
 use mathlib.Core.Path.{refl}
 use Rattle.spi_nor.specs.Config.{capacityBytesOf, fromJedec}
-use Rattle.nor_driver.specs.Transfer.{multipleOf, stepKind, afterUnit}
+use Rattle.nor_phases.specs.Transfer.{multipleOf, stepKind, afterUnit}
 use Rattle.nor_runs.specs.Bound.{delayBound}
 use Rattle.spi_nand.specs.Opcode.{timingsOf}
 use Rattle.spi_nand.specs.Status.{verdictOf, withBits, blockProtectBits, isUnlocked}

@@ -9,10 +9,10 @@ use Rattle.spi_flash.specs.WaitLaw.{largestSum, looks}
 use Rattle.spi_nor.specs.Command.{readCommand}
 use Rattle.spi_nor.specs.Config.{jedecId, w25q128jv, fromJedec, singleConfig}
 use Rattle.spi_nor.specs.declared.config.NorDeviceInfo.{NorDeviceInfo}
-use Rattle.nor_driver.specs.Transfer.{stepKind, afterUnit}
+use Rattle.nor_phases.specs.Transfer.{stepKind, afterUnit}
 use Rattle.nor_driver.specs.Call.{freshSetup}
 use Rattle.nor_runs.specs.Bound.{delayBound}
-use Rattle.nor_driver.specs.declared.phase.EraseKind.{EraseKind}
+use Rattle.nor_phases.specs.declared.phase.EraseKind.{EraseKind}
 use Rattle.nor_driver.specs.declared.state.Call.{Call}
 use Rattle.spi_nand.specs.Opcode.{timingsOf}
 use Rattle.spi_nand.specs.Command.{pageReadCommand}
