@@ -22,7 +22,7 @@ abbrev pub Raised : Stage → Transfer → Bool → Type 0
 Raised stage t select = Last stage t → select ≡ true
 
 -- select goes high with the last action; a delay leaves it high
-first-raised : (t : Transfer) (scratch lent : List ℕ) → Raised Stage.Start t (selectAfter (shownOf (actionOf (firstOf t)) scratch lent) true)
+pub first-raised : (t : Transfer) (scratch lent : List ℕ) → Raised Stage.Start t (selectAfter (shownOf (actionOf (firstOf t)) scratch lent) true)
 unfolding actionOf firstOf
 first-raised Transfer.Raise scratch lent c = refl
 first-raised (Transfer.Pause us) scratch lent c = refl

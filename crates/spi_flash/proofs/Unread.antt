@@ -1,14 +1,16 @@
 -- A program that reads nothing into the caller's buffer leaves it alone, over every run.
-use Prim.Native.Nat.{ℕ, _+_, _≤_}
+use Prim.Native.Nat.{ℕ, zero, suc, _+_, _≤_}
 use native.Mathlib.Omega.{arith}
-use mathlib.Core.Bool.{Bool, true, false}
+use mathlib.Core.Bool.{Bool, true, false, not}
 use mathlib.Core.Path.{_≡_, refl, subst}
 use mathlib.Core.List.{List, [], _∷_}
 use lib.ListN.{length}
+use lib.Dec.{leb}
 use Rattle.qspi.specs.Choice.{pick}
 use Rattle.qspi.specs.Bus.{fitsOf}
 use Rattle.qspi.specs.Frame.{firstOf, actionOf, sinkOf, takenInto, takenAt, takenIn, exchangedTo, advancedOf, gave, exchangeOf}
 use Rattle.qspi.specs.declared.bus.Reply.{Reply}
+use Rattle.qspi.specs.declared.command.Command.{Command}
 use Rattle.qspi.specs.declared.transfer.Sink.{Sink}
 use Rattle.qspi.specs.declared.transfer.Transfer.{Transfer}
 use Rattle.qspi.specs.declared.frame.Advanced.{Advanced}
@@ -16,13 +18,15 @@ use Rattle.qspi.specs.declared.frame.Exchanged.{Exchanged}
 use Rattle.qspi.specs.declared.frame.Frame.{Frame}
 use Rattle.qspi.specs.declared.frame.Outcome.{Outcome}
 use Rattle.spi_flash.specs.declared.loan.Takes.{Takes}
+use Rattle.spi_flash.specs.declared.wait.Timings.{Timings}
 use Rattle.spi_flash.specs.Loan.{Lent}
 use Rattle.spi_flash.specs.Prog.{Prog, ask}
+use Rattle.spi_flash.specs.WaitLaw.{waitLoop, waiting, promptWait}
 use Rattle.spi_flash.specs.Path.{Past, End, asked, Bounded}
 use Rattle.spi_flash.specs.Run.{Event, reply, call, Moved, goesOn}
 use Rattle.spi_flash.specs.Machine.{Decision, more, well, bad, Config, out, rest, lentAs, settle, moved, machine, tree, Onward, Simulates}
 use Rattle.spi_flash.specs.Seen.{KeepsBuffer}
-use Rattle.spi_flash.proofs.Laws.{every-mono}
+use Rattle.spi_flash.proofs.Laws.{every-mono, bounded-more, bounded-ret, bounded-fail, bounded-bind, bounded-then, bounded-if, bounded-transfer}
 use Rattle.spi_flash.proofs.Runs.{heard-view}
 
 -- the reads into the buffer, as a weight of transfers
@@ -41,6 +45,22 @@ none-first t k h = let l = h .bound .0 in omega arith
 
 none-later : {A : Type 0} {w : Transfer → ℕ} (t : Transfer) (k : ℕ → Prog A) → Bounded w 0 (ask t k) → (v : ℕ) → Bounded w 0 (k v)
 none-later t k h v = record { bound = every-mono (k v) (λ xs e l. omega arith) (h .bound .2 v) }
+
+-- a wait reads registers alone
+module _ (status : Command) (busy : ℕ → Bool) (t : Timings) where
+  unread-loop : (fuel waited : ℕ) → Bounded bufferReads 0 (waitLoop status busy fuel t waited)
+  unfolding waitLoop
+  unread-loop zero waited = bounded-fail
+  unread-loop (suc fuel) waited =
+      bounded-more (omega arith)
+      (bounded-bind {b = 0} {c = 0} bounded-transfer
+      (λ s. bounded-if (not (busy s)) bounded-ret
+      (bounded-if (leb (t .«timeout_us») waited) bounded-fail
+      (bounded-more (omega arith) (bounded-then {b = 0} {c = 0} bounded-transfer (unread-loop fuel (waited + t .«poll_us»)))))))
+
+  pub unread-wait : Bounded bufferReads 0 (promptWait status busy t)
+  unfolding promptWait waiting
+  unread-wait = unread-loop _ 0
 
 -- ---- the buffer in one step
 
