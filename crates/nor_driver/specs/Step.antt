@@ -2,7 +2,7 @@
 use Prim.Native.Nat.{ℕ}
 use mathlib.Core.Bool.{Bool, true, false}
 use mathlib.Core.List.{List}
-use lib.ListN.{length}
+use lib.ListN.{length, take}
 use Rattle.qspi.specs.Choice.{pick}
 use Rattle.qspi.specs.Frame.{AfterExchange, firstOf, actionOf, exchangeOf, deliveredBy}
 use Rattle.qspi.specs.declared.bus.Action.{Action}
@@ -86,3 +86,7 @@ stepAt (Running.Busy job) flash reply bytes scratch buffer lent = proceedOf flas
 -- a reply with none expected is 13
 unfoldable pub stepOf : SpiNorFlash → Reply → List ℕ → List ℕ → List ℕ → List ℕ → Moved
 stepOf flash reply bytes scratch buffer lent = stepAt (flash .running) flash reply bytes scratch buffer lent
+
+-- the part of the caller's buffer that holds the bytes read by the last call begun
+abbrev pub deliveredPart : SpiNorFlash → List ℕ → List ℕ
+deliveredPart flash buffer = take (flash .delivered) buffer

@@ -18,8 +18,8 @@ use spi_flash::error::FlashError;
 use spi_flash::loan;
 use spi_flash::loan::Takes;
 ghost use mathlib.Core.Path.{_≡_};
-ghost use lib.ListN.{length, take};
-ghost use Rattle.nor_driver.specs.Step.{refusedOf, flashOf, startedOf, endedOf, failedOf, settledOf, gaveOf, movedTo, proceedOf, stepOf};
+ghost use lib.ListN.{length};
+ghost use Rattle.nor_driver.specs.Step.{refusedOf, flashOf, startedOf, endedOf, failedOf, settledOf, gaveOf, movedTo, proceedOf, stepOf, deliveredPart};
 
 // The state unchanged, and why.
 pub fn refused(flash: SpiNorFlash, error: FlashError) -> Stepped
@@ -164,7 +164,7 @@ pub fn step(
 
 // The delivered beginning of the caller's buffer, as that part of it: the bytes that the last call begun has read.
 pub fn delivered(flash: SpiNorFlash, buffer: &[u8]) -> &[u8]
-    ensures { λ r. ⌜ now r ≡ take (flash .delivered) (now (buffer .entry)) ⌝ }
+    ensures { λ r. ⌜ now r ≡ deliveredPart flash (now (buffer .entry)) ⌝ }
 {
     let n = flash.delivered;
     qspi::bytes::delivered(buffer, n)

@@ -70,8 +70,8 @@ module _ (s : Setup) where
       step-view (flashOf s true n (Running.Busy job)) job r bytes l
       (λ m. driverOf (stateAfter nor (m .flash) es) ≡ some s)
       (keeps-driver es n job h)
-      (λ g delivered scratch buffer. keeps-driver es delivered (record { phase = job .phase; frame = g; takes = job .takes }) h)
-      (λ o scratch buffer. settled-driver es (keeps-driver es) n (Running.Busy job) (job .takes) (nextOf s (job .phase) o) (stays-next s (job .phase) o h))
+      (λ g ready fits is scratch buffer. keeps-driver es _ (record { phase = job .phase; frame = g; takes = job .takes }) h)
+      (λ o ready fits is scratch buffer. settled-driver es (keeps-driver es) n (Running.Busy job) (job .takes) (nextOf s (job .phase) o) (stays-next s (job .phase) o h))
 
 -- ---- a construction leaves what it has made
 
@@ -100,8 +100,8 @@ makes (reply r bytes l ∷ es) s n job =
     step-view (flashOf s false n (Running.Busy job)) job r bytes l
     (MakesBy es)
     (makes es s n job)
-    (λ g delivered scratch buffer. makes es s delivered (record { phase = job .phase; frame = g; takes = job .takes }))
-    (λ o scratch buffer. settled-makes es (makes es) s n (Running.Busy job) (job .takes) (nextOf s (job .phase) o) scratch buffer l)
+    (λ g ready fits is scratch buffer. makes es s _ (record { phase = job .phase; frame = g; takes = job .takes }))
+    (λ o ready fits is scratch buffer. settled-makes es (makes es) s n (Running.Busy job) (job .takes) (nextOf s (job .phase) o) scratch buffer l)
 
 -- ---- every call
 

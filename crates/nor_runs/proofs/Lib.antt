@@ -1,6 +1,8 @@
 pub mod Loops
 pub mod Waits
+pub mod Weights
 pub mod Bounds
+pub mod Unread
 pub mod Replies
 pub mod EraseSteps
 pub mod Reaches
@@ -14,5 +16,8 @@ pub mod Openings
 pub mod Views
 pub mod LeftBehind
 pub mod SameAsRust
+pub mod Delivered
+pub mod Judged
+pub mod Lent
 pub mod Promises
 pub mod Refusals

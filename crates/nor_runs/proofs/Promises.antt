@@ -29,61 +29,25 @@ use Rattle.nor_runs.specs.Promises.{Begun, ComesTo, answeredThen, EndsWi
 use Rattle.nor_driver.specs.declared.state.Call.{Call}
 use Rattle.nor_phases.specs.declared.setup.Setup.{Setup}
 use Rattle.nor_driver.specs.declared.state.SpiNorFlash.{SpiNorFlash}
+use Rattle.nor_runs.proofs.Judged.{same-judged}
 use Rattle.nor_runs.proofs.ProgramBounds.{program-bounds}
 use Rattle.nor_runs.proofs.Places.{Place, decideNext, Valid}
 use Rattle.nor_runs.proofs.Simulation.{meaning, simulates}
-use Rattle.nor_runs.proofs.Views.{Opens, opens-run, Nothing-begun, view}
+use Rattle.nor_runs.proofs.Views.{Opens, opens-run, Nothing-begun, view, begun-opens}
 
--- ---- what is judged is what the program works on
-
-record SameJudged (s : Setup) (c : Call) : Type 0 where
-  bound : (d : ℕ) → delayBound (judgedSetup s c) c d ≡ delayBound s c d
-  acts : (b d : ℕ) → actionBound (judgedSetup s c) c b d ≡ actionBound s c b d
-  program : (b d : ℕ) → programOf (judgedSetup s c) c b d ≡ programOf s c b d
-  begins : (b d : ℕ) → Begins s c b d → Begins (judgedSetup s c) c b d
-
-unchanged : (s : Setup) (c : Call) → judgedSetup s c ≡ s → SameJudged s c
-unchanged s c e = record {
-  bound = λ d. ap (λ x. delayBound x c d) e;
-  acts = λ b d. ap (λ x. actionBound x c b d) e;
-  program = λ b d. ap (λ x. programOf x c b d) e;
-  begins = λ b d h. subst (λ x. Begins x c b d) (sym e) h;
-}
-
-same : (s : Setup) (c : Call) → SameJudged s c
-unfolding delayBound actionBound programOf
-same s Call.New = record { bound = λ d. refl; acts = λ b d. refl; program = λ b d. refl; begins = λ b d h. h }
-same s (Call.WithConfig config) = record { bound = λ d. refl; acts = λ b d. refl; program = λ b d. refl; begins = λ b d h. h }
-same s Call.Config = unchanged s Call.Config refl
-same s Call.Device = unchanged s Call.Device refl
-same s Call.Id = unchanged s Call.Id refl
-same s Call.Free = unchanged s Call.Free refl
-same s Call.ReadStatus1 = unchanged s Call.ReadStatus1 refl
-same s Call.ReadStatus2 = unchanged s Call.ReadStatus2 refl
-same s Call.IsBusy = unchanged s Call.IsBusy refl
-same s Call.JedecId = unchanged s Call.JedecId refl
-same s Call.UniqueId = unchanged s Call.UniqueId refl
-same s Call.QuadEnabled = unchanged s Call.QuadEnabled refl
-same s Call.EnableQuad = unchanged s Call.EnableQuad refl
-same s Call.DisableQuad = unchanged s Call.DisableQuad refl
-same s (Call.Read offset) = unchanged s (Call.Read offset) refl
-same s (Call.Write offset) = unchanged s (Call.Write offset) refl
-same s Call.Unprotect = unchanged s Call.Unprotect refl
-same s (Call.Erase from to) = unchanged s (Call.Erase from to) refl
-same s (Call.EraseSector offset) = unchanged s (Call.EraseSector offset) refl
-same s (Call.EraseBlock offset) = unchanged s (Call.EraseBlock offset) refl
+-- ---- the bounds of a call that was judged
 
 module _ (s : Setup) (c : Call) (h : inBoundsOf (judgedSetup s c .device) ≡ true) (b : ℕ) where
   bounded-program : (d : ℕ) → Bounded delays (delayBound s c d) (programOf s c b d)
-  bounded-program d = rw (same s c .bound d, same s c .program b d) at (program-bounds .bounded (judgedSetup s c) h c b d)
+  bounded-program d = rw (same-judged s c .bound d, same-judged s c .program b d) at (program-bounds .bounded (judgedSetup s c) h c b d)
 
   acting-program : (d : ℕ) → Bounded actions (actionBound s c b d) (programOf s c b d)
-  acting-program d = rw (same s c .acts b d, same s c .program b d) at (program-bounds .acts (judgedSetup s c) h c b d)
+  acting-program d = rw (same-judged s c .acts b d, same-judged s c .program b d) at (program-bounds .acts (judgedSetup s c) h c b d)
 
   reaching-program : (given : List ℕ) → AllBytes given → Begins s c b (length given) → Reaches given delays (delayBound s c (length given)) (programOf s c b (length given))
   reaching-program given small begins =
-      rw (same s c .bound (length given), same s c .program b (length given)) at
-      (program-bounds .reached (judgedSetup s c) h c b given small (same s c .begins b (length given) begins))
+      rw (same-judged s c .bound (length given), same-judged s c .program b (length given)) at
+      (program-bounds .reached (judgedSetup s c) h c b given small (same-judged s c .begins b (length given) begins))
 
 -- ---- never passed
 
@@ -106,9 +70,6 @@ never-passed : (flash : SpiNorFlash) (c : Call) (l : Lent) (es : List (Event Cal
 never-passed flash c l es = ⊎-elim (λ n. no-run flash c l n es) (λ o. bounded-run flash c l o es) (view flash c l)
 
 -- ---- reached
-
-begun-opens : (flash : SpiNorFlash) (c : Call) (l : Lent) → Begun flash c l → Opens flash c l
-begun-opens flash c l h = ⊎-elim (λ n. absurd (n .no-action h)) (λ o. o) (view flash c l)
 
 comes-to : (flash : SpiNorFlash) (c : Call) (l : Lent) → AllBytes (l .given) → Opens flash c l → ComesTo flash c l (delayBound (flash .setup) c (length (l .given)))
 unfolding delayAsked Fitting firstOf
@@ -183,9 +144,9 @@ comes-well flash c l small can o =
     let s = flash .setup in
     let b = length (l .buffer) in
     let d = length (l .given) in
-    let e = program-bounds .endsWell (judgedSetup s c) (o .judged) c b (l .given) small (same s c .begins b d (o .begins)) can in
+    let e = program-bounds .endsWell (judgedSetup s c) (o .judged) c b (l .given) small (same-judged s c .begins b d (o .begins)) can in
     let path : Ends (l .given) delays (e .0) (e .1) (ask (o .first) (meaning (o .at))) =
-    subst (Ends (l .given) delays (e .0) (e .1)) (same s c .program b d ∙ o .program) (e .2) in
+    subst (Ends (l .given) delays (e .0) (e .1)) (same-judged s c .program b d ∙ o .program) (e .2) in
     let r = reached Call decideNext (takesOf c l) (l .given) Valid meaning simulates (o .first) (o .at) (Well (λ x xs. (x ≡ e .1) × (spent delays xs ≡ e .0))) (o .valid) (path .ends) in
     record {
       left = e .1;

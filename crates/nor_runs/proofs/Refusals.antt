@@ -61,8 +61,8 @@ unfolding Keeps
 busy-kept flash job r bytes l =
     step-view flash job r bytes l (Keeps flash l)
     (λ e h. (refl, refl))
-    (λ g delivered scratch buffer e h. absurd (acts-not _ e h))
-    (λ o scratch buffer. settled-kept flash flash (job .takes) (nextOf (flash .setup) (job .phase) o) scratch buffer l l)
+    (λ g ready fits is scratch buffer e h. absurd (acts-not _ e h))
+    (λ o ready fits is scratch buffer. settled-kept flash flash (job .takes) (nextOf (flash .setup) (job .phase) o) scratch buffer l l)
 
 reply-kept : (setup : Setup) (built : Bool) (delivered : ℕ) (running : Running) (r : Reply) (bytes : List ℕ) (l : Lent) →
     Keeps (flashOf setup built delivered running) l (nor .answer (flashOf setup built delivered running) r bytes l)

@@ -11,7 +11,7 @@ use Rattle.qspi.specs.declared.bus.Reply.{Reply}
 use Rattle.qspi.specs.declared.frame.Advanced.{Advanced}
 use Rattle.qspi.specs.declared.frame.Frame.{Frame}
 use Rattle.qspi.specs.declared.frame.Outcome.{Outcome}
-use Rattle.spi_flash.specs.Loan.{Lent, readyOf}
+use Rattle.spi_flash.specs.Loan.{Lent, readyFor}
 use Rattle.spi_flash.specs.Run as Run
 use Rattle.spi_flash.specs.declared.error.FlashError.{FlashError}
 use Rattle.spi_flash.proofs.Cases.{by-cases}
@@ -24,18 +24,20 @@ use Rattle.nor_runs.specs.Run.{steppedAs}
 
 module _ (flash : SpiNorFlash) (job : Job) (r : Reply) (bytes : List ℕ) (l : Lent) (P : Run.Moved SpiNorFlash Left → Type 0)
     (refused : P (steppedAs (movedTo (refusedOf flash FlashError.Misfit) (l .scratch) (l .buffer)) l))
-    (goes : (g : Frame) (delivered : ℕ) (scratch buffer : List ℕ) → P (steppedAs (movedTo (gaveOf flash job g delivered (actionOf g)) scratch buffer) l))
-    (over : (o : Outcome) (scratch buffer : List ℕ) → P (steppedAs (movedTo (settledOf flash (job .takes) (nextOf (flash .setup) (job .phase) o)) scratch buffer) l)) where
+    (goes : (g : Frame) → readyFor (job .takes) l ≡ true → fitsOf (actionOf (job .frame)) r (length bytes) ≡ true → advancedOf (job .frame) r bytes (l .given) ≡ Advanced.More g →
+        (scratch buffer : List ℕ) → P (steppedAs (movedTo (gaveOf flash job g (deliveredBy (job .frame) r (length bytes) (length (l .buffer)) (flash .delivered)) (actionOf g)) scratch buffer) l))
+    (over : (o : Outcome) → readyFor (job .takes) l ≡ true → fitsOf (actionOf (job .frame)) r (length bytes) ≡ true → advancedOf (job .frame) r bytes (l .given) ≡ Advanced.Over o →
+        (scratch buffer : List ℕ) → P (steppedAs (movedTo (settledOf flash (job .takes) (nextOf (flash .setup) (job .phase) o)) scratch buffer) l)) where
   pub step-view : P (steppedAs (proceedOf flash job r bytes (l .scratch) (l .buffer) (l .given)) l)
   unfolding proceedOf exchangeOf
   step-view =
-      by-cases (readyOf (job .takes) (length (l .scratch)) (length (l .buffer)) (length (l .given)))
+      by-cases (readyFor (job .takes) l)
       (λ ready. by-cases (fitsOf (actionOf (job .frame)) r (length bytes))
-      (λ fits. rw (ready, fits) (at (advancedOf (job .frame) r bytes (l .given))))
+      (λ fits. rw (ready, fits) (at ready fits (advancedOf (job .frame) r bytes (l .given)) refl))
       (λ fits. rw (ready, fits) refused))
       (λ ready. rw ready refused)
     where
-      at : (x : Advanced) → P
+      at : readyFor (job .takes) l ≡ true → fitsOf (actionOf (job .frame)) r (length bytes) ≡ true → (x : Advanced) → advancedOf (job .frame) r bytes (l .given) ≡ x → P
           (steppedAs (afterwards flash job (deliveredBy (job .frame) r (length bytes) (length (l .buffer)) (flash .delivered)) (gave x (l .scratch) (takenIn (job .frame) r bytes (l .buffer)))) l)
-      at (Advanced.More g) = goes g _ _ _
-      at (Advanced.Over o) = over o _ _
+      at ready fits (Advanced.More g) e = goes g ready fits e _ _
+      at ready fits (Advanced.Over o) e = over o ready fits e _ _

@@ -2,7 +2,7 @@
 use Prim.Native.Nat.{ℕ, _≤_}
 use native.Mathlib.Omega.{arith}
 use mathlib.Core.Bool.{Bool, true, false}
-use mathlib.Core.Logic.{_⊎_, inl, inr}
+use mathlib.Core.Logic.{_⊎_, inl, inr, ⊎-elim}
 use mathlib.Core.Path.{_≡_, refl, ap, sym, _∙_, subst}
 use mathlib.Core.List.{List, [], _∷_}
 use lib.ListN.{length}
@@ -26,7 +26,7 @@ use Rattle.nor_driver.specs.Call.{givenDevice, freshSetup, constructedOf, toldO
 use Rattle.nor_runs.specs.Program.{Left, leaving, programOf}
 use Rattle.nor_runs.specs.Run.{Sort, constructs, tells, releases, uses, sortOf, begunAs, nor, takesOf}
 use Rattle.nor_runs.specs.ProgramBounds.{Begins, judgedSetup}
-use Rattle.nor_runs.specs.Promises.{GivesAction}
+use Rattle.nor_runs.specs.Promises.{GivesAction, Begun}
 use Rattle.nor_runs.specs.SameAsRust.{Ready, Usable}
 use Rattle.nor_phases.specs.declared.phase.Phase.{Phase}
 use Rattle.nor_phases.specs.declared.setup.Answer.{Answer}
@@ -69,6 +69,12 @@ unfolding runOf settledOf
 opens-run {flash} {c} {l} o es =
     ap (λ m. begunWith nor (m .given) c l m es) (o .is)
     ∙ ap (λ xs. entry (call c l) (settle (takesOf c l) (more (o .first) (o .at)) l) ∷ xs) (runs-same (runningAt (o .at) (o .built) (takesOf c l) (o .first)) es)
+
+-- the same in the driver's own steps
+pub opens-steps : {flash : SpiNorFlash} {c : Call} {l : Lent} (o : Opens flash c l) (es : List (Event Call)) → runOf nor flash c l es ≡
+    entry (call c l) (settle (takesOf c l) (more (o .first) (o .at)) l) ∷ goesOn nor (runningAt (o .at) (o .built) (takesOf c l) (o .first)) es
+unfolding runOf settledOf
+opens-steps {flash} {c} {l} o es = ap (λ m. begunWith nor (m .given) c l m es) (o .is)
 
 pub opens-call : {flash : SpiNorFlash} {c : Call} {l : Lent} (o : Opens flash c l) (es : List (Event Call)) → callOf nor flash c l es ≡
     entry (call c l) (settle (takesOf c l) (more (o .first) (o .at)) l) ∷ goesOn (machine decideNext Call) (out (takesOf c l) (o .at) (firstOf (o .first))) es
@@ -237,6 +243,10 @@ view-at s u n (Running.Busy job) c l = inl (record { none = λ es. refl; no-acti
 
 pub view : (flash : SpiNorFlash) (c : Call) (l : Lent) → Nothing-begun flash c l ⊎ Opens flash c l
 view flash c l = view-at (flash .setup) (flash .built) (flash .delivered) (flash .running) c l
+
+-- a call that has given out an action
+pub begun-opens : (flash : SpiNorFlash) (c : Call) (l : Lent) → Begun flash c l → Opens flash c l
+begun-opens flash c l h = ⊎-elim (λ n. absurd (n .no-action h)) (λ o. o) (view flash c l)
 
 pub busy-not : {job : Job} → Running.Busy job ≡ Running.Idle → ⊥
 busy-not h = let z : _≡_ {A = ℕ} 0 1 = cc in omega arith

@@ -1,18 +1,22 @@
 -- The promises of the NOR driver over every run: over every state, call, lent bytes and list of events, refused replies and calls
 -- begun meanwhile among them, every event with lent bytes of its own.
 use Prim.Native.Nat.{ℕ, _≤_}
+use mathlib.Core.Bool.{false}
 use mathlib.Core.Path.{_≡_}
 use mathlib.Core.List.{List, [], _∷_}
-use lib.ListN.{length}
+use lib.ListN.{length, take}
 use Rattle.qspi.specs.Bytes.{AllBytes}
 use Rattle.qspi.specs.declared.bus.Reply.{Reply}
 use Rattle.spi_flash.specs.Loan.{Lent}
 use Rattle.spi_flash.specs.Run.{Event, Entry, Given, act, ended, failed, refused, delayAsked, Fitting, HasEnded, Answer, RealReplies, answering, Lending, runOf}
+use Rattle.spi_flash.specs.Seen.{Undisturbed, bytesRead, ChangesRead, HoldsRead, KeepsBuffer, EndsHigh}
 use Rattle.spi_flash.specs.declared.error.FlashError.{FlashError}
 use Rattle.nor_runs.specs.Bound.{delayBound, actionBound}
 use Rattle.nor_runs.specs.Program.{Left}
 use Rattle.nor_runs.specs.ProgramBounds.{CanEnd}
-use Rattle.nor_runs.specs.Run.{nor, takesOf}
+use Rattle.nor_runs.specs.Run.{nor, takesOf, takesBuffer}
+use Rattle.nor_runs.specs.SameAsRust.{flashAfter}
+use Rattle.nor_driver.specs.Step.{deliveredPart}
 use Rattle.nor_driver.specs.declared.state.Call.{Call}
 use Rattle.nor_driver.specs.declared.state.SpiNorFlash.{SpiNorFlash}
 
@@ -75,3 +79,19 @@ pub record Demand3 : Type 0 where
       HasEnded (runOf nor flash call l es)
   -- every begun call ends well on some replies, but a construction with a page above 512
   pub endsWell : (flash : SpiNorFlash) (call : Call) (l : Lent) → AllBytes (l .given) → Begun flash call l → CanEnd call → EndsWell flash call l
+
+-- over every run, whatever the replies and whatever is lent
+pub record Demand1 : Type 0 where
+  -- a read of the caller's buffer: "its steps change only the places of the bytes read so far, whatever the replies"
+  pub changes : (flash : SpiNorFlash) (offset : ℕ) (l : Lent) (es : List (Event Call)) → ChangesRead 0 (runOf nor flash (Call.Read offset) l es)
+  -- "if nobody else writes there, the buffer holds those bytes at their places and its old bytes elsewhere"
+  pub holds : (flash : SpiNorFlash) (offset : ℕ) (l : Lent) (es : List (Event Call)) → Undisturbed (l .buffer) (runOf nor flash (Call.Read offset) l es) →
+      HoldsRead (l .buffer) [] (runOf nor flash (Call.Read offset) l es)
+  -- `delivered` shows as many places of the buffer as bytes were read, while the call runs and when it has ended
+  pub delivered : (flash : SpiNorFlash) (offset : ℕ) (l : Lent) (es : List (Event Call)) → Begun flash (Call.Read offset) l → (buffer : List ℕ) →
+      deliveredPart (flashAfter flash (Call.Read offset) l es) buffer ≡ take (length (bytesRead (runOf nor flash (Call.Read offset) l es))) buffer
+  -- no other call changes the buffer
+  pub keeps : (flash : SpiNorFlash) (call : Call) (l : Lent) (es : List (Event Call)) → takesBuffer (takesOf call l) ≡ false →
+      KeepsBuffer (runOf nor flash call l es)
+  -- "After a bus error select goes high and the call ends": every call ends with select high, whatever it was before
+  pub endsHigh : (flash : SpiNorFlash) (call : Call) (l : Lent) (es : List (Event Call)) → EndsHigh false (runOf nor flash call l es)

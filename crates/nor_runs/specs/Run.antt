@@ -74,6 +74,12 @@ takesOf (Call.Erase from to) l = Takes.Nothing
 takesOf (Call.EraseSector offset) l = Takes.Nothing
 takesOf (Call.EraseBlock offset) l = Takes.Nothing
 
+-- whether it is the caller's buffer
+abbrev pub takesBuffer : Takes → Bool
+takesBuffer Takes.Nothing = false
+takesBuffer (Takes.Buffer n) = true
+takesBuffer (Takes.Data n) = false
+
 -- what a call is to the driver: its construction, a look at what it holds, its release, or a use of the bus
 pub data Sort : Type 0 where
   constructs tells releases uses : Sort

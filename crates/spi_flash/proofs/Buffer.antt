@@ -46,11 +46,11 @@ module _ (C : Type 0) {S A : Type 0} (Valid : S → Type 0) (next : S → Outcom
   entries c es = goesOn (machine next C) c es
 
   -- what a transfer leads to
-  fills-next : (s : S) (n : ℕ) (o : Outcome) → Valid s → FillsOn len n (meaning s) o → Fills len n (tree meaning (next s o))
+  pub fills-next : (s : S) (n : ℕ) (o : Outcome) → Valid s → FillsOn len n (meaning s) o → Fills len n (tree meaning (next s o))
   fills-next s n (Outcome.Value v) w h = subst (Fills len n) (sim .onValue s v w) (h v)
   fills-next s n (Outcome.Failed code) w h = rw (sim .onFailure s code) tt
 
-  keeps-next : (s : S) (o : Outcome) → Valid s → Onward Valid (next s o)
+  pub keeps-next : (s : S) (o : Outcome) → Valid s → Onward Valid (next s o)
   keeps-next s (Outcome.Value v) w = sim .keeps s v w
   keeps-next s (Outcome.Failed code) w = rw (sim .onFailure s code) tt
 

@@ -19,6 +19,7 @@ use Rattle.qspi.specs.declared.transfer.Transfer.{Transfer}
 use Rattle.qspi.specs.declared.frame.Stage.{Stage}
 use Rattle.qspi.specs.declared.frame.Outcome.{Outcome}
 use Rattle.qspi.specs.declared.frame.Advanced.{Advanced}
+use Rattle.qspi.specs.declared.frame.Frame.{Frame}
 use Rattle.spi_flash.specs.Prog.{Prog, ret, fail, ask}
 use Rattle.spi_flash.specs.Seen.{dataAt, SameFrom, inFront}
 use Rattle.spi_flash.proofs.Cases.{by-cases}
@@ -208,3 +209,16 @@ module _ {A : Type 0} (len n : ℕ) (k : ℕ → Prog A) (o : Outcome) (bytes : 
   fed Stage.High t h Reply.Done fit = quiet bytes (λ given. h .1)
   fed Stage.High t h Reply.Data fit = absurd (false≢true fit)
   fed Stage.High t h (Reply.Error code) fit = broken code bytes
+
+-- the last reply of a transfer brings no data
+more-not : {g : Frame} {o : Outcome} → Advanced.More g ≡ Advanced.Over o → ⊥
+more-not h = let z : _≡_ {A = ℕ} 0 1 = cc in omega arith
+
+pub over-quiet : {A : Type 0} (k : ℕ → Prog A) (len n : ℕ) (stage : Stage) (t : Transfer) (o x : Outcome) (r : Reply) (bytes given : List ℕ) → Filling len n k stage t o →
+    fitsAt (awaitsOf (actionAt stage t)) r (length bytes) ≡ true → advancedAt (frameAt t stage o) r bytes given ≡ Advanced.Over x → dataAt r bytes ≡ []
+over-quiet k len n stage t o x Reply.Done bytes given h fit e = refl
+over-quiet k len n Stage.Start t o x Reply.Data bytes given h fit e = absurd (no-start-data len n k o bytes t fit)
+over-quiet k len n Stage.Command t o x Reply.Data bytes given h fit e = absurd (no-data len n k o bytes t (h .0) fit)
+over-quiet k len n Stage.Payload t o x Reply.Data bytes given h fit e = absurd (more-not e)
+over-quiet k len n Stage.High t o x Reply.Data bytes given h fit e = absurd (false≢true fit)
+over-quiet k len n stage t o x (Reply.Error code) bytes given h fit e = refl

@@ -1,0 +1,146 @@
+-- The calls that read nothing into the caller's buffer, and the one that does.
+use Prim.Native.Nat.{ℕ, zero, suc, _+_, _-_, _≤_}
+use native.Mathlib.Omega.{arith}
+use mathlib.Core.Bool.{Bool, true, false}
+use mathlib.Core.Path.{_≡_, refl}
+use lib.Dec.{ltb}
+use borrow.Author.Tests.{ltb-true, le-ltb}
+use Rattle.qspi.specs.Choice.{pick}
+use Rattle.qspi.specs.declared.transfer.Sink.{Sink}
+use Rattle.spi_flash.specs.Loan.{Lent}
+use Rattle.spi_flash.specs.Prog.{Prog, ret, _>>=_, _>>_, refuse, transfer}
+use Rattle.spi_flash.specs.Path.{Bounded}
+use Rattle.spi_flash.proofs.Cases.{by-cases}
+use Rattle.spi_flash.proofs.Filling.{Fills}
+use Rattle.spi_flash.proofs.Laws.{bounded-more, bounded-ret}
+use Rattle.spi_flash.proofs.Unread.{bufferReads, unread-wait}
+use Rattle.spi_nor.specs.Opcode.{timingsOf}
+use Rattle.spi_nor.specs.Command.{readStatus1Command}
+use Rattle.spi_nor.specs.Config.{singleConfig, inBoundsOf}
+use Rattle.spi_nor.specs.declared.config.NorDeviceInfo.{NorDeviceInfo}
+use Rattle.spi_nor.specs.declared.config.QuadSetting.{QuadSetting}
+use Rattle.spi_nor.specs.declared.config.SpiNorConfig.{SpiNorConfig}
+use Rattle.spi_nor.specs.declared.opcode.Operation.{Operation}
+use Rattle.spi_nor.proofs.DeviceBounds.{deviceBounds}
+use Rattle.nor_phases.specs.Transfer.{placeOf, chunkOf, readAt, readTransfer, programAt, inRange, stepKind, afterUnit}
+use Rattle.nor_phases.proofs.Pieces.{chunk-within}
+use Rattle.nor_phases.specs.declared.setup.Answer.{Answer}
+use Rattle.nor_phases.specs.declared.phase.EraseKind.{EraseKind}
+use Rattle.nor_phases.specs.declared.setup.Setup.{Setup}
+use Rattle.nor_driver.specs.declared.state.Call.{Call}
+use Rattle.nor_runs.specs.Rust.{busyValue, wait-ready, reading, read, with-config}
+use Rattle.nor_runs.specs.Program.{Left, leaving, programOf}
+use Rattle.nor_runs.specs.Bound.{pageTaken, eraseSum}
+use Rattle.nor_runs.specs.Run.{takesOf, takesBuffer}
+use Rattle.nor_runs.proofs.Loops.{chunk-some, reading-loop}
+use Rattle.nor_runs.proofs.Weights.{answered, ended, Weighs, bounded-status1, bounded-status2, bounded-is-busy, bounded-jedec-id, bounded-unique-id, bounded-quad-enabled, bounded-enable-quad, bounded-disable-quad, bounded-unprotect, bounded-write, bounded-unit, bounded-erase, bounded-with-config}
+
+true≢false : true ≡ false → ⊥
+true≢false h = let z : _≡_ {A = ℕ} 0 1 = cc in omega arith
+
+-- ---- no call but read puts anything into the caller's buffer
+
+unread-figures : Weighs bufferReads 0 0 1 (λ operation. 0)
+unfolding wait-ready
+unread-figures = record {
+  sent = λ c. omega arith;
+  number = λ c n. omega arith;
+  filled = filled;
+  compared = compared;
+  given = given;
+  waited = waited;
+}
+  where
+    filled : (q : QuadSetting) (offset n at : ℕ) → bufferReads (readAt q offset n (Sink.Buffer at)) ≤ 1
+    filled QuadSetting.Single offset n at = omega arith
+    filled (QuadSetting.Quad q) offset n at = omega arith
+
+    compared : (q : QuadSetting) (offset n from : ℕ) → bufferReads (readAt q offset n (Sink.Compare from)) ≤ 0
+    compared QuadSetting.Single offset n from = omega arith
+    compared (QuadSetting.Quad q) offset n from = omega arith
+
+    given : (q : QuadSetting) (offset from n : ℕ) → bufferReads (programAt q offset from n) ≤ 0
+    given QuadSetting.Single offset from n = omega arith
+    given (QuadSetting.Quad q) offset from n = omega arith
+
+    waited : (operation : Operation) → Bounded bufferReads 0 (wait-ready operation)
+    waited operation = unread-wait readStatus1Command busyValue (timingsOf operation)
+
+-- nothing for each step is nothing
+no-sum : (device : NorDeviceInfo) (n address to : ℕ) → eraseSum (λ kind. 0) device n address to ≤ 0
+no-sum device zero address to = omega arith
+no-sum device (suc n) address to = at (ltb address to) (no-sum device n (afterUnit device (stepKind device address to) address) to)
+  where
+    at : (b : Bool) → eraseSum (λ kind. 0) device n (afterUnit device (stepKind device address to) address) to ≤ 0 →
+        pick b (0 + eraseSum (λ kind. 0) device n (afterUnit device (stepKind device address to) address) to) 0 ≤ 0
+    at true h = omega arith
+    at false h = omega arith
+
+constructed : (config : SpiNorConfig) → Bounded bufferReads 0 (with-config config)
+constructed config = bounded-more (none (pageTaken (config .device))) (bounded-with-config unread-figures (λ q. 0) (λ q. omega arith) config 0 (omega arith))
+  where
+    none : (b : Bool) → 0 + 0 + pick b 0 0 ≤ 0
+    none true = omega arith
+    none false = omega arith
+
+-- a call that takes no buffer
+pub unread : (flash : Setup) → inBoundsOf (flash .device) ≡ true → (call : Call) (l : Lent) (b d : ℕ) → takesBuffer (takesOf call l) ≡ false → Bounded bufferReads 0 (programOf flash call b d)
+unfolding programOf
+unread flash h Call.New l b d k = answered _ (omega arith) (constructed singleConfig)
+unread flash h (Call.WithConfig config) l b d k = answered _ (omega arith) (constructed config)
+unread flash h Call.Config l b d k = bounded-ret
+unread flash h Call.Device l b d k = bounded-ret
+unread flash h Call.Id l b d k = bounded-ret
+unread flash h Call.Free l b d k = bounded-ret
+unread flash h Call.ReadStatus1 l b d k = answered _ (omega arith) (bounded-status1 unread-figures)
+unread flash h Call.ReadStatus2 l b d k = answered _ (omega arith) (bounded-status2 unread-figures)
+unread flash h Call.IsBusy l b d k = answered _ (omega arith) (bounded-is-busy unread-figures)
+unread flash h Call.JedecId l b d k = answered _ (omega arith) (bounded-jedec-id unread-figures)
+unread flash h Call.UniqueId l b d k = answered _ (omega arith) (bounded-unique-id unread-figures)
+unread flash h Call.QuadEnabled l b d k = answered _ (omega arith) (bounded-quad-enabled unread-figures)
+unread flash h Call.EnableQuad l b d k = ended _ (omega arith) (bounded-enable-quad unread-figures)
+unread flash h Call.DisableQuad l b d k = ended _ (omega arith) (bounded-disable-quad unread-figures)
+unread flash h (Call.Read offset) l b d k = absurd (true≢false k)
+unread flash h (Call.Write offset) l b d k =
+    ended _ (omega arith) (bounded-write unread-figures flash (deviceBounds .accepted (flash .device) h .leastPage) offset d)
+unread flash h Call.Unprotect l b d k = answered _ (omega arith) (bounded-unprotect unread-figures)
+unread flash h (Call.Erase from to) l b d k =
+    ended _ (no-sum (flash .device) (to - from) from to) (bounded-erase unread-figures flash (λ kind. 0) (λ kind. omega arith) from to)
+unread flash h (Call.EraseSector offset) l b d k = ended _ (omega arith) (bounded-unit unread-figures flash EraseKind.Sector offset)
+unread flash h (Call.EraseBlock offset) l b d k = ended _ (omega arith) (bounded-unit unread-figures flash EraseKind.Block offset)
+
+-- ---- read fills the buffer, place after place
+
+module _ (flash : Setup) (offset len : ℕ) (left : Left) where
+  abbrev Reads : ℕ → Type 0
+  Reads done = Fills len done (reading flash offset len done >> ret left)
+
+  fills-piece : (q : QuadSetting) (done : ℕ) → done + chunkOf len done ≤ len → Reads (done + chunkOf len done) →
+      Fills len done ((transfer (readAt q (placeOf offset done) (chunkOf len done) (Sink.Buffer done)) >> reading flash offset len (done + chunkOf len done)) >> ret left)
+  unfolding _>>=_ _>>_
+  fills-piece QuadSetting.Single done room later = (refl, room, λ v. later)
+  fills-piece (QuadSetting.Quad q) done room later = (refl, room, λ v. later)
+
+  finished : (done : ℕ) → Fills len done (ret (tt {0}) >> ret left)
+  unfolding _>>=_ _>>_
+  finished done = tt
+
+  fills-reading : (k done : ℕ) → len - done ≤ k → Reads done
+  unfolding readTransfer
+  fills-reading zero done h = rw (reading-loop flash offset len done, le-ltb done len (omega arith)) (finished done)
+  fills-reading (suc k) done h =
+      rw (reading-loop flash offset len done)
+      (by-cases (ltb done len)
+      (λ e. let below = ltb-true done len e in
+      let room = chunk-within len done (suc len) (omega arith) (omega arith) in
+      let some = chunk-some len done below in
+      rw e (fills-piece (flash .config .quad) done (omega arith) (fills-reading k (done + chunkOf len done) (omega arith))))
+      (λ e. rw e (finished done)))
+
+  fills-read : Fills len 0 (read flash offset len >> ret left)
+  unfolding read refuse _>>=_ _>>_
+  fills-read = by-cases (inRange (flash .device .capacity) offset len) (λ e. rw e (fills-reading len 0 (omega arith))) (λ e. rw e tt)
+
+pub fills : (flash : Setup) (offset len d : ℕ) → Fills len 0 (programOf flash (Call.Read offset) len d)
+unfolding programOf
+fills flash offset len d = fills-read flash offset len (leaving flash Answer.Done)
