@@ -1,16 +1,14 @@
 -- The count of bytes that the driver has delivered is the number of bytes read.
-use Prim.Native.Nat.{ℕ, _+_, _≤_}
+use Prim.Native.Nat.{ℕ, _+_}
 use native.Mathlib.Omega.{arith}
 use native.Mathlib.Nat.{add-zero}
-use mathlib.Core.Bool.{Bool, true, false}
+use mathlib.Core.Bool.{Bool, true}
 use mathlib.Core.Path.{_≡_, refl, ap, sym, _∙_, subst}
 use mathlib.Core.List.{List, [], _∷_, _++_}
 use lib.ListN.{length, length-append}
-use Rattle.qspi.specs.Bus.{awaitsOf, fitsAt, fitsOf}
-use Rattle.qspi.specs.Frame.{firstOf, actionOf, actionAt, sinkOf, frameAt, deliveredAt, deliveredBy, advancedAt, advancedOf}
+use Rattle.qspi.specs.Bus.{fitsOf}
+use Rattle.qspi.specs.Frame.{firstOf, actionOf, deliveredBy, advancedOf}
 use Rattle.qspi.specs.declared.bus.Reply.{Reply}
-use Rattle.qspi.specs.declared.transfer.Transfer.{Transfer}
-use Rattle.qspi.specs.declared.frame.Stage.{Stage}
 use Rattle.qspi.specs.declared.frame.Outcome.{Outcome}
 use Rattle.qspi.specs.declared.frame.Advanced.{Advanced}
 use Rattle.qspi.specs.declared.frame.Frame.{Frame}
@@ -20,7 +18,6 @@ use Rattle.spi_flash.specs.Run.{Event, reply, call, goesOn, stateAfter}
 use Rattle.spi_flash.specs.Machine.{tree, Onward}
 use Rattle.spi_flash.specs.Seen.{unlessRefused, dataAt, bytesRead}
 use Rattle.spi_flash.specs.declared.loan.Takes.{Takes}
-use Rattle.spi_flash.proofs.OnBus.{Reached}
 use Rattle.spi_flash.proofs.Filling.{Fills, FillsOn, Filling, FillsNext, Fed, fed, over-quiet}
 use Rattle.spi_flash.proofs.Buffer.{buffer-length, fills-next, keeps-next}
 use Rattle.nor_phases.specs.Next.{nextOf}
@@ -30,7 +27,6 @@ use Rattle.nor_phases.specs.declared.setup.Then.{Then}
 use Rattle.nor_driver.specs.Step.{flashOf, movedTo, settledOf, stepOf}
 use Rattle.nor_driver.specs.Call.{beginOf}
 use Rattle.nor_driver.specs.declared.state.Call.{Call}
-use Rattle.nor_driver.specs.declared.state.Job.{Job}
 use Rattle.nor_driver.specs.declared.state.Running.{Running}
 use Rattle.nor_driver.specs.declared.state.SpiNorFlash.{SpiNorFlash}
 use Rattle.nor_runs.specs.Program.{Left}
@@ -97,7 +93,7 @@ module _ (len : ℕ) (built : Bool) where
     unfolding advancedOf
     goes-counts g e =
         let next : Filling len (n + length (dataAt r bytes)) (meaning s) (g .stage) (g .transfer) (g .outcome) =
-            subst (FillsNext len (n + length (dataAt r bytes)) (meaning s)) e (feeds .next (l .given)) in
+        subst (FillsNext len (n + length (dataAt r bytes)) (meaning s)) e (feeds .next (l .given)) in
         rw counted
         (ih setup phase (n + length (dataAt r bytes)) g (at .0, next)
         ∙ omega (arith, length-append (dataAt r bytes) (bytesRead (goesOn nor (runningAt setup (n + length (dataAt r bytes)) phase g) es))))

@@ -1,10 +1,9 @@
 -- What a call keeps from transfer to transfer.
 use Prim.Native.Nat.{ℕ, _+_}
 use mathlib.Core.Bool.{Bool, true, false, not}
-use mathlib.Core.Path.{_≡_}
+use mathlib.Core.Path.{_≡_, refl}
 use lib.Dec.{ltb, leb, eqb}
 use Rattle.qspi.specs.Choice.{pick}
-use Rattle.spi_flash.specs.Prog.{transfer}
 use Rattle.spi_flash.specs.Wait.{firstWait, nextWait}
 use Rattle.spi_flash.specs.Machine.{Onward}
 use Rattle.spi_flash.specs.declared.wait.Wait.{Wait}
@@ -26,103 +25,111 @@ use Rattle.qspi.specs.declared.transfer.Transfer.{Transfer}
 use Rattle.spi_flash.specs.declared.error.FlashError.{FlashError}
 use Rattle.nor_phases.specs.declared.setup.Setup.{Setup}
 use Rattle.nor_phases.specs.declared.setup.Then.{Then}
-use Rattle.nor_runs.proofs.Places.{decide, Valid, Built}
+use Rattle.nor_runs.proofs.Places.{decide, Valid, Built, Stays}
 
 -- a test between two ways of going on
 pub keeps-pick : (R : Then → Type 0) (b : Bool) (x y : Then) → R x → R y → R (pick b x y)
 keeps-pick R true x y h k = h
 keeps-pick R false x y h k = k
 
--- a call on a built driver goes on with what the driver holds
-module _ (R : Then → Type 0) (s : Setup)
-    (go : (t : Transfer) (phase : Phase) → Built phase → R (Then.Go s t phase)) (end : (answer : Answer) → R (Then.End s answer)) (fail : (e : FlashError) → R (Then.Fail e)) where
+-- what holds of every step of a call on a built driver that holds s
+pub record Passes (R : Then → Type 0) (s : Setup) : Type 0 where
+  pub go : (t : Transfer) (phase : Phase) → Built phase → R (Then.Go s t phase)
+  pub end : (answer : Answer) → R (Then.End s answer)
+  pub fail : (e : FlashError) → R (Then.Fail e)
+
+-- such a call goes on with what the driver holds
+pub stays : (s : Setup) → Passes (Stays s) s
+stays s = record { go = λ t phase h. (refl, h); end = λ answer. refl; fail = λ e. tt }
+
+module _ (R : Then → Type 0) (s : Setup) (passes : Passes R s) where
   keeps-latched : (task : Task) (b : ℕ) → R (latchedThen s task b)
   unfolding latchedThen
-  keeps-latched task b = keeps-pick R (writeEnabledOf b) _ _ (go _ _ tt) (fail _)
+  keeps-latched task b = keeps-pick R (writeEnabledOf b) _ _ (passes .go _ _ tt) (passes .fail _)
 
   pub keeps-read : (offset len done : ℕ) → R (readFrom s offset len done)
   unfolding readFrom
-  keeps-read offset len done = keeps-pick R (ltb done len) _ _ (go _ _ tt) (end _)
+  keeps-read offset len done = keeps-pick R (ltb done len) _ _ (passes .go _ _ tt) (passes .end _)
 
   pub keeps-program : (offset len done : ℕ) → R (programFrom s offset len done)
   unfolding programFrom
-  keeps-program offset len done = keeps-pick R (ltb done len) _ _ (go _ _ tt) (end _)
+  keeps-program offset len done = keeps-pick R (ltb done len) _ _ (passes .go _ _ tt) (passes .end _)
 
   keeps-verify : (offset len done : ℕ) → R (verifyThen s offset len done)
   unfolding verifyThen
-  keeps-verify offset len done = keeps-pick R (inRange (s .device .capacity) (placeOf offset done) (pageOf (s .device) len done)) _ _ (go _ _ tt) (fail _)
+  keeps-verify offset len done = keeps-pick R (inRange (s .device .capacity) (placeOf offset done) (pageOf (s .device) len done)) _ _ (passes .go _ _ tt) (passes .fail _)
 
   keeps-verified : (offset len done v : ℕ) → R (verifiedThen s offset len done v)
   unfolding verifiedThen
-  keeps-verified offset len done v = keeps-pick R (eqb v 0) _ _ (fail _) (keeps-program offset len (done + pageOf (s .device) len done))
+  keeps-verified offset len done v = keeps-pick R (eqb v 0) _ _ (passes .fail _) (keeps-program offset len (done + pageOf (s .device) len done))
 
   pub keeps-unit : (kind : EraseKind) (address to : ℕ) → R (eraseUnit s kind address to)
   unfolding eraseUnit
   keeps-unit kind address to =
       keeps-pick R (inRange (s .device .capacity) address (unitSize (s .device) kind)) _ _
-      (keeps-pick R (multipleOf address (unitSize (s .device) kind)) _ _ (go _ _ tt) (fail _)) (fail _)
+      (keeps-pick R (multipleOf address (unitSize (s .device) kind)) _ _ (passes .go _ _ tt) (passes .fail _)) (passes .fail _)
 
   pub keeps-erase : (address to : ℕ) → R (eraseFrom s address to)
   unfolding eraseFrom
-  keeps-erase address to = keeps-pick R (ltb address to) _ _ (keeps-unit (stepKind (s .device) address to) address to) (end _)
+  keeps-erase address to = keeps-pick R (ltb address to) _ _ (keeps-unit (stepKind (s .device) address to) address to) (passes .end _)
 
   keeps-second : (before status2 : ℕ) → R (unprotectSecond s before status2)
   unfolding unprotectSecond
-  keeps-second before status2 = keeps-pick R (eqb (unprotected2Of status2) status2) _ _ (go _ _ tt) (go _ _ tt)
+  keeps-second before status2 = keeps-pick R (eqb (unprotected2Of status2) status2) _ _ (passes .go _ _ tt) (passes .go _ _ tt)
 
   keeps-first : (before status2 : ℕ) → R (unprotectFirst s before status2)
   unfolding unprotectFirst
-  keeps-first before status2 = keeps-pick R (eqb (unprotected1Of before) before) _ _ (keeps-second before status2) (go _ _ tt)
+  keeps-first before status2 = keeps-pick R (eqb (unprotected1Of before) before) _ _ (keeps-second before status2) (passes .go _ _ tt)
 
   keeps-task : (task : Task) → R (resumeTask s task)
   unfolding resumeTask
-  keeps-task (Task.EnableQuad2 x) = go _ _ tt
-  keeps-task (Task.EnableQuad1 x) = go _ _ tt
-  keeps-task (Task.DisableQuad2 x) = go _ _ tt
-  keeps-task (Task.DisableQuad1 x) = go _ _ tt
+  keeps-task (Task.EnableQuad2 x) = passes .go _ _ tt
+  keeps-task (Task.EnableQuad1 x) = passes .go _ _ tt
+  keeps-task (Task.DisableQuad2 x) = passes .go _ _ tt
+  keeps-task (Task.DisableQuad1 x) = passes .go _ _ tt
   keeps-task (Task.Unprotect1 before status2) = keeps-second before status2
-  keeps-task (Task.Unprotect2 before status2) = go _ _ tt
+  keeps-task (Task.Unprotect2 before status2) = passes .go _ _ tt
   keeps-task (Task.PageProgram offset len done) = keeps-verify offset len done
   keeps-task (Task.Erase kind address to) = keeps-erase (afterUnit (s .device) kind address) to
 
   keeps-wait : (task : Task) (w : Wait) → R (waitThen s task w)
   unfolding waitThen
-  keeps-wait task Wait.Look = go _ _ tt
-  keeps-wait task (Wait.Pause us waited) = go _ _ tt
+  keeps-wait task Wait.Look = passes .go _ _ tt
+  keeps-wait task (Wait.Pause us waited) = passes .go _ _ tt
   keeps-wait task Wait.Ready = keeps-task task
-  keeps-wait task Wait.Timeout = fail _
+  keeps-wait task Wait.Timeout = passes .fail _
 
   pub keeps-built : (phase : Phase) → Built phase → (v : ℕ) → R (afterPhase s phase v)
   unfolding afterPhase
   keeps-built Phase.Raised h v = absurd h
   keeps-built Phase.Identify h v = absurd h
-  keeps-built Phase.Status1 h v = end _
-  keeps-built Phase.Status2 h v = end _
-  keeps-built Phase.Busy h v = end _
-  keeps-built Phase.JedecId h v = end _
-  keeps-built Phase.UniqueId h v = end _
-  keeps-built Phase.QuadEnabled2 h v = keeps-pick R (quadEnabled2Of (byteOf v)) _ _ (end _) (go _ _ tt)
-  keeps-built Phase.QuadEnabled1 h v = end _
-  keeps-built Phase.EnableCheck2 h v = keeps-pick R (quadEnabled2Of (byteOf v)) _ _ (end _) (go _ _ tt)
-  keeps-built Phase.EnableCheck1 h v = keeps-pick R (quadEnabled1Of (byteOf v)) _ _ (end _) (go _ _ tt)
-  keeps-built Phase.EnableRead2 h v = go _ _ tt
-  keeps-built Phase.EnableVerify2 h v = keeps-pick R (quadEnabled2Of (byteOf v)) _ _ (end _) (go _ _ tt)
-  keeps-built Phase.EnableRead1 h v = go _ _ tt
-  keeps-built Phase.EnableVerify1 h v = keeps-pick R (quadEnabled1Of (byteOf v)) _ _ (end _) (fail _)
-  keeps-built Phase.DisableRead2 h v = keeps-pick R (quadEnabled2Of (byteOf v)) _ _ (go _ _ tt) (go _ _ tt)
-  keeps-built Phase.DisableVerify2 h v = keeps-pick R (not (quadEnabled2Of (byteOf v))) _ _ (end _) (fail _)
-  keeps-built Phase.DisableRead1 h v = keeps-pick R (quadEnabled1Of (byteOf v)) _ _ (go _ _ tt) (end _)
-  keeps-built Phase.DisableVerify1 h v = keeps-pick R (not (quadEnabled1Of (byteOf v))) _ _ (end _) (fail _)
-  keeps-built Phase.UnprotectRead1 h v = go _ _ tt
+  keeps-built Phase.Status1 h v = passes .end _
+  keeps-built Phase.Status2 h v = passes .end _
+  keeps-built Phase.Busy h v = passes .end _
+  keeps-built Phase.JedecId h v = passes .end _
+  keeps-built Phase.UniqueId h v = passes .end _
+  keeps-built Phase.QuadEnabled2 h v = keeps-pick R (quadEnabled2Of (byteOf v)) _ _ (passes .end _) (passes .go _ _ tt)
+  keeps-built Phase.QuadEnabled1 h v = passes .end _
+  keeps-built Phase.EnableCheck2 h v = keeps-pick R (quadEnabled2Of (byteOf v)) _ _ (passes .end _) (passes .go _ _ tt)
+  keeps-built Phase.EnableCheck1 h v = keeps-pick R (quadEnabled1Of (byteOf v)) _ _ (passes .end _) (passes .go _ _ tt)
+  keeps-built Phase.EnableRead2 h v = passes .go _ _ tt
+  keeps-built Phase.EnableVerify2 h v = keeps-pick R (quadEnabled2Of (byteOf v)) _ _ (passes .end _) (passes .go _ _ tt)
+  keeps-built Phase.EnableRead1 h v = passes .go _ _ tt
+  keeps-built Phase.EnableVerify1 h v = keeps-pick R (quadEnabled1Of (byteOf v)) _ _ (passes .end _) (passes .fail _)
+  keeps-built Phase.DisableRead2 h v = keeps-pick R (quadEnabled2Of (byteOf v)) _ _ (passes .go _ _ tt) (passes .go _ _ tt)
+  keeps-built Phase.DisableVerify2 h v = keeps-pick R (not (quadEnabled2Of (byteOf v))) _ _ (passes .end _) (passes .fail _)
+  keeps-built Phase.DisableRead1 h v = keeps-pick R (quadEnabled1Of (byteOf v)) _ _ (passes .go _ _ tt) (passes .end _)
+  keeps-built Phase.DisableVerify1 h v = keeps-pick R (not (quadEnabled1Of (byteOf v))) _ _ (passes .end _) (passes .fail _)
+  keeps-built Phase.UnprotectRead1 h v = passes .go _ _ tt
   keeps-built (Phase.UnprotectRead2 before) h v = keeps-first before (byteOf v)
-  keeps-built (Phase.UnprotectAfter before) h v = end _
+  keeps-built (Phase.UnprotectAfter before) h v = passes .end _
   keeps-built (Phase.Reading offset len done) h v = keeps-read offset len (done + chunkOf len done)
   keeps-built (Phase.Verifying offset len done) h v = keeps-verified offset len done v
-  keeps-built (Phase.Enabling task) h v = go _ _ tt
+  keeps-built (Phase.Enabling task) h v = passes .go _ _ tt
   keeps-built (Phase.Latching task) h v = keeps-latched task (byteOf v)
   keeps-built (Phase.Sending task) h v = keeps-wait task (firstWait (timingsOf (taskOperation task)))
   keeps-built (Phase.Looking task waited) h v = keeps-wait task (nextWait (timingsOf (taskOperation task)) waited (busyOf (byteOf v)))
-  keeps-built (Phase.Pausing task waited) h v = go _ _ tt
+  keeps-built (Phase.Pausing task waited) h v = passes .go _ _ tt
 
 -- ---- the device stays within the bounds
 
@@ -145,7 +152,7 @@ module _ (s : Setup) (valid : inBoundsOf (s .device) ≡ true) where
   keeps-identified v = keeps-pick (λ x. Onward Valid (decide x)) (leb (deviceFor s (idOf v) .«page_size») 512) _ _ (keeps-quad (s .config .quad) v) tt
 
   going : (phase : Phase) → Built phase → (v : ℕ) → Onward Valid (decide (afterPhase s phase v))
-  going = keeps-built (λ x. Onward Valid (decide x)) s (λ t phase h. valid) (λ answer. tt) (λ e. tt)
+  going = keeps-built (λ x. Onward Valid (decide x)) s (record { go = λ t phase h. valid; end = λ answer. tt; fail = λ e. tt })
 
   pub keeps : (phase : Phase) (v : ℕ) → Onward Valid (decide (afterPhase s phase v))
   unfolding afterPhase

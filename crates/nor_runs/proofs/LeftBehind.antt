@@ -9,7 +9,6 @@ use lib.ListN.{length}
 use Rattle.qspi.specs.Choice.{pick}
 use Rattle.qspi.specs.Command.{scratchLeast}
 use Rattle.qspi.specs.Frame.{firstOf}
-use Rattle.qspi.specs.declared.bus.Reply.{Reply}
 use Rattle.qspi.specs.declared.frame.Outcome.{Outcome}
 use Rattle.spi_flash.specs.Loan.{Lent}
 use Rattle.spi_flash.specs.Run as Run
@@ -17,7 +16,7 @@ use Rattle.spi_flash.specs.Run.{Event, reply, call, goesOn, atOnce, callOf, sta
 use Rattle.spi_flash.specs.Seen.{toldThen, told}
 use Rattle.spi_flash.specs.declared.loan.Takes.{Takes}
 use Rattle.nor_phases.specs.Next.{nextOf}
-use Rattle.nor_driver.specs.Step.{flashOf, movedTo, settledOf, proceedOf, stepOf}
+use Rattle.nor_driver.specs.Step.{flashOf, movedTo, settledOf, stepOf}
 use Rattle.nor_driver.specs.Call.{beginOf}
 use Rattle.nor_runs.specs.Program.{Left}
 use Rattle.nor_runs.specs.Run.{Sort, constructs, tells, releases, uses, sortOf, steppedAs, nor, takesOf}
@@ -30,7 +29,7 @@ use Rattle.nor_phases.specs.declared.setup.Setup.{Setup}
 use Rattle.nor_driver.specs.declared.state.SpiNorFlash.{SpiNorFlash}
 use Rattle.nor_phases.specs.declared.setup.Then.{Then}
 use Rattle.nor_runs.proofs.Places.{Built, Stays}
-use Rattle.nor_runs.proofs.Keeps.{keeps-built}
+use Rattle.nor_runs.proofs.Keeps.{stays, keeps-built}
 use Rattle.nor_runs.proofs.Steps.{step-view}
 use Rattle.nor_runs.proofs.Views.{Opens, Kept, Answered, gives, turns, usable, busy-not}
 
@@ -48,7 +47,7 @@ rest-state s u n (reply r bytes l ∷ es) = rest-state s u n es
 
 stays-next : (s : Setup) (phase : Phase) (o : Outcome) → Built phase → Stays s (nextOf s phase o)
 unfolding nextOf
-stays-next s phase (Outcome.Value v) h = keeps-built (Stays s) s (λ t p i. (refl, i)) (λ answer. refl) (λ e. tt) phase h v
+stays-next s phase (Outcome.Value v) h = keeps-built (Stays s) s (stays s) phase h v
 stays-next s phase (Outcome.Failed code) h = tt
 
 module _ (s : Setup) where

@@ -1,20 +1,19 @@
 -- What is lent and what is selected, over every run.
-use Prim.Native.Nat.{ℕ, _+_}
+use Prim.Native.Nat.{ℕ}
 use native.Mathlib.Nat.{zero-add}
-use mathlib.Core.Bool.{Bool, true, false}
+use mathlib.Core.Bool.{true, false}
 use mathlib.Core.Logic.{⊎-elim}
 use mathlib.Core.Path.{_≡_, refl, ap, sym, _∙_, subst}
-use mathlib.Core.List.{List, [], _∷_}
+use mathlib.Core.List.{List, []}
 use lib.ListN.{length, take}
 use Rattle.qspi.specs.Frame.{firstOf, actionOf}
 use Rattle.qspi.specs.Shown.{shownOf}
-use Rattle.qspi.specs.ShownBytes.{startShown}
 use Rattle.qspi.specs.declared.frame.Outcome.{Outcome}
 use Rattle.qspi.specs.declared.frame.Stage.{Stage}
 use Rattle.spi_flash.specs.Loan.{Lent}
 use Rattle.spi_flash.specs.Path.{Bounded}
 use Rattle.spi_flash.specs.Prog.{ask}
-use Rattle.spi_flash.specs.Run.{Event, goesOn, runOf, stateAfter}
+use Rattle.spi_flash.specs.Run.{Event, runOf, stateAfter}
 use Rattle.spi_flash.specs.Seen.{Undisturbed, bytesRead, ChangesRead, HoldsRead, KeepsBuffer, selectAfter, EndsHigh}
 use Rattle.spi_flash.proofs.Buffer.{changes-read, holds-read}
 use Rattle.spi_flash.proofs.Filling.{Fills}
@@ -25,7 +24,7 @@ use Rattle.nor_driver.specs.Step.{settledOf}
 use Rattle.nor_driver.specs.declared.state.Call.{Call}
 use Rattle.nor_driver.specs.declared.state.SpiNorFlash.{SpiNorFlash}
 use Rattle.nor_runs.specs.ProgramBounds.{judgedSetup}
-use Rattle.nor_runs.specs.Promises.{Begun, Demand1}
+use Rattle.nor_runs.specs.Promises.{Demand1}
 use Rattle.nor_runs.specs.Run.{nor, takesOf, takesBuffer}
 use Rattle.nor_runs.specs.SameAsRust.{flashAfter}
 use Rattle.nor_runs.proofs.Judged.{same-judged}
@@ -33,7 +32,7 @@ use Rattle.nor_runs.proofs.Places.{decideNext, Valid}
 use Rattle.nor_runs.proofs.Simulation.{meaning, simulates}
 use Rattle.nor_runs.proofs.Unread.{fills, unread}
 use Rattle.nor_runs.proofs.Delivered.{counts}
-use Rattle.nor_runs.proofs.Views.{Opens, opens-run, opens-steps, Nothing-begun, view, begun-opens}
+use Rattle.nor_runs.proofs.Views.{Opens, opens-run, opens-steps, view, begun-opens}
 
 -- ---- a read
 
@@ -86,7 +85,7 @@ kept flash c l es h = ⊎-elim (λ n. rw (n .none es) tt) opened (view flash c l
         let b = length (l .buffer) in
         let d = length (l .given) in
         let none : Bounded bufferReads 0 (ask (o .first) (meaning (o .at))) =
-            subst (Bounded bufferReads 0) (same-judged s c .program b d ∙ o .program) (unread (judgedSetup s c) (o .judged) c l b d h) in
+        subst (Bounded bufferReads 0) (same-judged s c .program b d ∙ o .program) (unread (judgedSetup s c) (o .judged) c l b d h) in
         rw (opens-run o es) (refl, keeps-buffer Valid decideNext (takesOf c l) meaning simulates es (o .at) (firstOf (o .first)) (o .valid) none)
 
 -- ---- select

@@ -3,7 +3,6 @@ use Prim.Native.Nat.{ℕ}
 use native.Mathlib.Omega.{arith}
 use mathlib.Core.Bool.{Bool, true, false}
 use mathlib.Core.Path.{_≡_, refl, ap, sym, _∙_}
-use mathlib.Core.List.{List}
 use lib.ListN.{length}
 use lib.Dec.{ltb}
 use borrow.Author.Tests.{le-ltb}
@@ -12,8 +11,8 @@ use Rattle.qspi.specs.ShownBytes.{startShown}
 use Rattle.qspi.specs.declared.transfer.Sink.{Sink}
 use Rattle.qspi.specs.declared.transfer.Transfer.{Transfer}
 use Rattle.spi_flash.specs.Loan.{Lent}
-use Rattle.spi_flash.specs.Prog.{Prog, ret, fail, ask, _>>=_, _>>_, refuse}
-use Rattle.spi_flash.specs.Machine.{Decision, tree, Onward}
+use Rattle.spi_flash.specs.Prog.{Prog, ret, ask, _>>=_, _>>_, refuse}
+use Rattle.spi_flash.specs.Machine.{tree}
 use Rattle.spi_flash.specs.Seen.{selectAfter}
 use Rattle.spi_flash.specs.declared.error.FlashError.{FlashError}
 use Rattle.spi_flash.specs.declared.loan.Takes.{Takes}
@@ -28,7 +27,7 @@ use Rattle.nor_driver.specs.Step.{flashOf}
 use Rattle.nor_driver.specs.Call.{givenDevice, freshSetup, constructedOf, toldOf, freedOf, begunOf, readThen, writeThen, eraseThen, idleOf, beginOf}
 use Rattle.nor_runs.specs.Rust.{read, write, erase-unit, erase, erasing}
 use Rattle.nor_runs.specs.Program.{Left, leaving, programOf}
-use Rattle.nor_runs.specs.Run.{Sort, constructs, tells, releases, uses, sortOf, begunAs, nor, takesOf}
+use Rattle.nor_runs.specs.Run.{constructs, tells, releases, uses, sortOf, begunAs, nor, takesOf}
 use Rattle.nor_runs.specs.ProgramBounds.{Begins, judgedSetup}
 use Rattle.nor_phases.specs.declared.phase.EraseKind.{EraseKind}
 use Rattle.nor_phases.specs.declared.phase.Phase.{Phase}
@@ -40,7 +39,7 @@ use Rattle.nor_driver.specs.declared.state.SpiNorFlash.{SpiNorFlash}
 use Rattle.nor_phases.specs.declared.setup.Then.{Then}
 use Rattle.nor_runs.proofs.Loops.{erasing-loop}
 use Rattle.nor_runs.proofs.Places.{place, decide, Stays}
-use Rattle.nor_runs.proofs.Keeps.{keeps-read, keeps-program, keeps-unit, keeps-erase, keeps-pick}
+use Rattle.nor_runs.proofs.Keeps.{stays, keeps-read, keeps-program, keeps-unit, keeps-erase, keeps-pick}
 use Rattle.nor_runs.proofs.Simulation.{meaning, then-assoc, starts, reads-on, writes-on, erases-unit, erases-on, beginnings}
 
 -- ---- the Rust's tests before the bus
@@ -133,14 +132,14 @@ unit-tested s kind address end s′ t p h =
 
 keeps-read-call : (s : Setup) (offset len : ℕ) → Stays s (readThen s offset len)
 unfolding readThen
-keeps-read-call s offset len = keeps-pick (Stays s) (inRange (s .device .capacity) offset len) _ _ (keeps-read (Stays s) s (λ t phase h. (refl, h)) (λ answer. refl) (λ e. tt) offset len 0) tt
+keeps-read-call s offset len = keeps-pick (Stays s) (inRange (s .device .capacity) offset len) _ _ (keeps-read (Stays s) s (stays s) offset len 0) tt
 
 keeps-write-call : (s : Setup) (offset len : ℕ) → Stays s (writeThen s offset len)
 unfolding writeThen
 keeps-write-call s offset len =
     keeps-pick (Stays s) (inRange (s .device .capacity) offset len) _ _
     (keeps-pick (Stays s) (multipleOf offset (s .device .«page_size»)) _ _
-    (keeps-pick (Stays s) (multipleOf len (s .device .«page_size»)) _ _ (keeps-program (Stays s) s (λ t phase h. (refl, h)) (λ answer. refl) (λ e. tt) offset len 0) tt) tt) tt
+    (keeps-pick (Stays s) (multipleOf len (s .device .«page_size»)) _ _ (keeps-program (Stays s) s (stays s) offset len 0) tt) tt) tt
 
 keeps-erase-call : (s : Setup) (from to : ℕ) → Stays s (eraseThen s from to)
 unfolding eraseThen
@@ -148,7 +147,7 @@ keeps-erase-call s from to =
     keeps-pick (Stays s) (ltb to from) _ _ tt
     (keeps-pick (Stays s) (ltb (s .device .capacity) to) _ _ tt
     (keeps-pick (Stays s) (multipleOf from (s .device .«sector_size»)) _ _
-    (keeps-pick (Stays s) (multipleOf to (s .device .«sector_size»)) _ _ (keeps-erase (Stays s) s (λ t phase h. (refl, h)) (λ answer. refl) (λ e. tt) from to) tt) tt))
+    (keeps-pick (Stays s) (multipleOf to (s .device .«sector_size»)) _ _ (keeps-erase (Stays s) s (stays s) from to) tt) tt))
 
 -- ---- the first action
 
@@ -364,7 +363,7 @@ opening-of s u n (Call.EraseSector offset) l = usage (record {
   opening = eraseUnit s EraseKind.Sector offset (afterUnit (s .device) EraseKind.Sector offset);
   is = refl;
   follows = λ h. erases-one s h EraseKind.Sector offset;
-  keeps = keeps-unit (Stays s) s (λ t phase h. (refl, h)) (λ answer. refl) (λ e. tt) EraseKind.Sector offset (afterUnit (s .device) EraseKind.Sector offset);
+  keeps = keeps-unit (Stays s) s (stays s) EraseKind.Sector offset (afterUnit (s .device) EraseKind.Sector offset);
   selects = selects-unit s EraseKind.Sector offset (afterUnit (s .device) EraseKind.Sector offset);
   judges = refl;
   tested = unit-tested s EraseKind.Sector offset (afterUnit (s .device) EraseKind.Sector offset);
@@ -374,7 +373,7 @@ opening-of s u n (Call.EraseBlock offset) l = usage (record {
   opening = eraseUnit s EraseKind.Block offset (afterUnit (s .device) EraseKind.Block offset);
   is = refl;
   follows = λ h. erases-one s h EraseKind.Block offset;
-  keeps = keeps-unit (Stays s) s (λ t phase h. (refl, h)) (λ answer. refl) (λ e. tt) EraseKind.Block offset (afterUnit (s .device) EraseKind.Block offset);
+  keeps = keeps-unit (Stays s) s (stays s) EraseKind.Block offset (afterUnit (s .device) EraseKind.Block offset);
   selects = selects-unit s EraseKind.Block offset (afterUnit (s .device) EraseKind.Block offset);
   judges = refl;
   tested = unit-tested s EraseKind.Block offset (afterUnit (s .device) EraseKind.Block offset);

@@ -1,22 +1,22 @@
 -- The promises over every run, from the program that each call follows.
-use Prim.Native.Nat.{ℕ, _+_, _≤_}
+use Prim.Native.Nat.{ℕ, _≤_}
 use native.Mathlib.Omega.{arith}
 use mathlib.Core.Bool.{true}
 use mathlib.Core.Logic.{⊎-elim}
-use mathlib.Core.Path.{_≡_, refl, ap, sym, _∙_, subst}
+use mathlib.Core.Path.{_≡_, _∙_, subst}
 use mathlib.Core.List.{List, [], _∷_}
 use lib.ListN.{length}
 use Rattle.qspi.specs.Bytes.{AllBytes}
 use Rattle.qspi.specs.Frame.{firstOf}
 use Rattle.spi_flash.specs.Loan.{Lent}
-use Rattle.spi_flash.specs.Prog.{Prog, ask}
+use Rattle.spi_flash.specs.Prog.{ask}
 use Rattle.qspi.specs.Frame.{exchangeOf}
 use Rattle.qspi.specs.declared.frame.Exchanged.{Exchanged}
 use Rattle.qspi.specs.declared.frame.Frame.{Frame}
 use Rattle.spi_flash.specs.Path.{Past, End, going, done, failed, spent, delays, actions, asked, Well, Bounded, Reaches, Ends}
 use Rattle.spi_flash.specs.Run as Run
 use Rattle.spi_flash.specs.declared.loan.Takes.{Takes}
-use Rattle.spi_flash.specs.Run.{Event, reply, call, delayAsked, Fitting, HasEnded, Answer, answering, Lending, goesOn, runOf}
+use Rattle.spi_flash.specs.Run.{Event, reply, call, delayAsked, Fitting, HasEnded, answering, goesOn, runOf}
 use Rattle.spi_flash.specs.Machine.{Decision, more, well, bad, Config, machine, out, lentAs, settle, moved, Trail, decidedTrail, heardTrail, trail}
 use Rattle.spi_flash.proofs.Runs.{heard-view, first-delay, trail-asks, run-bound, run-ends}
 use Rattle.spi_flash.proofs.Reach.{reached}
@@ -25,7 +25,7 @@ use Rattle.nor_runs.specs.Bound.{delayBound, actionBound}
 use Rattle.nor_runs.specs.Program.{Left, programOf}
 use Rattle.nor_runs.specs.ProgramBounds.{Begins, CanEnd, judgedSetup}
 use Rattle.nor_runs.specs.Run.{nor, takesOf}
-use Rattle.nor_runs.specs.Promises.{Begun, ComesTo, answeredThen, EndsWith, EndsWell, Demand3}
+use Rattle.nor_runs.specs.Promises.{ComesTo, answeredThen, EndsWith, EndsWell, Demand3}
 use Rattle.nor_driver.specs.declared.state.Call.{Call}
 use Rattle.nor_phases.specs.declared.setup.Setup.{Setup}
 use Rattle.nor_driver.specs.declared.state.SpiNorFlash.{SpiNorFlash}

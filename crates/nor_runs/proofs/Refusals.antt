@@ -11,7 +11,6 @@ use Rattle.qspi.specs.Command.{scratchLeast}
 use Rattle.qspi.specs.Shown.{Shown}
 use Rattle.qspi.specs.declared.bus.Reply.{Reply}
 use Rattle.spi_flash.specs.Loan.{Lent}
-use Rattle.spi_flash.specs.Machine.{lentAs}
 use Rattle.spi_flash.specs.Run as Run
 use Rattle.spi_flash.specs.declared.error.FlashError.{FlashError}
 use Rattle.spi_flash.specs.declared.loan.Takes.{Takes}

@@ -1,30 +1,25 @@
 -- The driver's own steps are those of the machine.
-use Prim.Native.Nat.{ℕ, _+_, _≤_}
-use native.Mathlib.Omega.{arith}
-use mathlib.Core.Bool.{Bool, true, false}
-use mathlib.Core.Path.{_≡_, refl, ap, ap₂, sym, _∙_, subst}
+use Prim.Native.Nat.{ℕ}
+use mathlib.Core.Bool.{Bool}
+use mathlib.Core.Path.{_≡_, refl, ap, ap₂, _∙_}
 use mathlib.Core.List.{List, [], _∷_}
 use lib.ListN.{length}
-use Rattle.qspi.specs.Choice.{pick}
 use Rattle.qspi.specs.Bus.{fitsOf}
-use Rattle.qspi.specs.Frame.{firstOf, actionOf, givenScratch, exchangedTo, exchangeOf, advancedOf, takenIn, gave, deliveredBy}
+use Rattle.qspi.specs.Frame.{actionOf, exchangeOf, advancedOf, takenIn, gave, deliveredBy}
 use Rattle.qspi.specs.declared.bus.Reply.{Reply}
 use Rattle.qspi.specs.declared.frame.Advanced.{Advanced}
-use Rattle.qspi.specs.declared.frame.Exchanged.{Exchanged}
 use Rattle.qspi.specs.declared.frame.Frame.{Frame}
-use Rattle.qspi.specs.declared.frame.Outcome.{Outcome}
-use Rattle.spi_flash.specs.Loan.{Lent, readyOf, readyFor}
+use Rattle.spi_flash.specs.Loan.{Lent, readyFor}
 use Rattle.spi_flash.specs.Run as Run
-use Rattle.spi_flash.specs.Run.{Event, reply, call, Entry, entry, goesOn}
-use Rattle.spi_flash.specs.Machine.{Decision, more, well, bad, Config, out, rest, lentAs, heard, settle, moved, answered, machine}
-use Rattle.spi_flash.specs.declared.error.FlashError.{FlashError}
+use Rattle.spi_flash.specs.Run.{Event, reply, call, entry, goesOn}
+use Rattle.spi_flash.specs.Machine.{Config, out, rest, lentAs, settle, moved, answered, machine}
 use Rattle.spi_flash.specs.declared.loan.Takes.{Takes}
 use Rattle.spi_flash.proofs.Cases.{by-cases}
-use Rattle.nor_driver.specs.Step.{flashOf, settledOf, exchangedThen, afterwards, proceedOf, stepOf}
+use Rattle.nor_driver.specs.Step.{flashOf, settledOf, afterwards, proceedOf, stepOf}
 use Rattle.nor_phases.specs.Next.{nextOf}
 use Rattle.nor_driver.specs.Call.{beginOf}
-use Rattle.nor_runs.specs.Program.{Left, leaving}
-use Rattle.nor_runs.specs.Run.{givenAs, steppedAs, isRunning, nor}
+use Rattle.nor_runs.specs.Program.{Left}
+use Rattle.nor_runs.specs.Run.{steppedAs, nor}
 use Rattle.nor_driver.specs.declared.state.Call.{Call}
 use Rattle.nor_driver.specs.declared.state.Job.{Job}
 use Rattle.nor_driver.specs.declared.state.Running.{Running}

@@ -1,17 +1,14 @@
 -- Every call does what the Rust's does, and leaves the driver that the Rust's leaves.
-use Prim.Native.Nat.{ℕ, _≤_}
+use Prim.Native.Nat.{ℕ}
 use native.Mathlib.Omega.{arith}
-use mathlib.Core.Bool.{Bool, true, false}
-use mathlib.Core.Logic.{_⊎_, inl, inr, ⊎-elim}
+use mathlib.Core.Logic.{⊎-elim}
 use mathlib.Core.Path.{_≡_, refl, ap, ap₂, sym, _∙_, subst}
 use mathlib.Core.List.{List, [], _∷_}
 use lib.ListN.{length}
-use Rattle.qspi.specs.Frame.{firstOf}
 use Rattle.spi_flash.specs.Loan.{Lent}
-use Rattle.spi_flash.specs.Prog.{Prog, ret, fail, ask}
-use Rattle.spi_flash.specs.Run.{Event, reply, call, Entry, entry, goesOn, Fitting, atOnce, opening, callOf}
-use Rattle.spi_flash.specs.Machine.{more, out, settle, machine}
-use Rattle.spi_flash.specs.Seen.{Did, toldThen, told, repliesOf, SameData, Undisturbed}
+use Rattle.spi_flash.specs.Prog.{Prog}
+use Rattle.spi_flash.specs.Run.{Event, call, goesOn, Fitting, atOnce, callOf}
+use Rattle.spi_flash.specs.Seen.{toldThen, told, repliesOf, SameData, Undisturbed}
 use Rattle.spi_flash.specs.OnBus.{programOnBus, performed}
 use Rattle.spi_flash.proofs.Performs.{performs}
 use Rattle.nor_runs.specs.Program.{Left, programOf}

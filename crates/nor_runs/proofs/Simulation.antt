@@ -19,7 +19,7 @@ use Rattle.spi_nor.specs.Status.{busyOf, writeEnabledOf, quadEnabled1Of, quadEn
 use Rattle.spi_nor.specs.Command.{writeEnableCommand, readStatus1Command, readStatus2Command, readIdCommand, readUniqueIdCommand}
 use Rattle.nor_phases.specs.Transfer.{numberTransfer, placeOf, chunkOf, pageOf, taskTransfer, taskOperation, inRange, multipleOf, unitSize, stepKind, afterUnit}
 use Rattle.nor_phases.specs.Next.{byteOf, idOf, knownAs, builtThen, readFrom, programFrom, verifyThen, verifiedThen, latchedThen, eraseUnit, eraseFrom, unprotectFirst, unprotectSecond, resumeTask, waitThen, identifiedThen, afterPhase, nextOf}
-use Rattle.nor_runs.specs.Rust.{Nothing, busyValue, read-status1, read-status2, is-busy, wait-ready, write-enable, write-status1, write-status2, jedec-id, unique-id, quad-enabled, enable-quad, disable-quad, reading, read-back, page-program, writing, write, erase-unit, erasing, Unprotected, unprotect, quad-if, with-config}
+use Rattle.nor_runs.specs.Rust.{Nothing, busyValue, read-status1, read-status2, is-busy, wait-ready, write-enable, write-status1, write-status2, jedec-id, unique-id, quad-enabled, enable-quad, disable-quad, reading, read-back, page-program, writing, erase-unit, erasing, Unprotected, unprotect, quad-if, with-config}
 use Rattle.nor_driver.specs.Call.{freshSetup}
 use Rattle.nor_runs.specs.Program.{Left, leaving}
 use Rattle.spi_nor.specs.Config.{inBoundsOf}

@@ -1,12 +1,11 @@
 -- What one reply can do to a running call: it is refused, the frame goes on, or the transfer is over.
 use Prim.Native.Nat.{ℕ}
-use mathlib.Core.Bool.{Bool, true, false}
+use mathlib.Core.Bool.{true}
 use mathlib.Core.Path.{_≡_, refl}
 use mathlib.Core.List.{List}
 use lib.ListN.{length}
-use Rattle.qspi.specs.Choice.{pick}
 use Rattle.qspi.specs.Bus.{fitsOf}
-use Rattle.qspi.specs.Frame.{actionOf, givenScratch, exchangeOf, advancedOf, takenIn, gave, deliveredBy}
+use Rattle.qspi.specs.Frame.{actionOf, exchangeOf, advancedOf, takenIn, gave, deliveredBy}
 use Rattle.qspi.specs.declared.bus.Reply.{Reply}
 use Rattle.qspi.specs.declared.frame.Advanced.{Advanced}
 use Rattle.qspi.specs.declared.frame.Frame.{Frame}
@@ -25,9 +24,9 @@ use Rattle.nor_runs.specs.Run.{steppedAs}
 module _ (flash : SpiNorFlash) (job : Job) (r : Reply) (bytes : List ℕ) (l : Lent) (P : Run.Moved SpiNorFlash Left → Type 0)
     (refused : P (steppedAs (movedTo (refusedOf flash FlashError.Misfit) (l .scratch) (l .buffer)) l))
     (goes : (g : Frame) → readyFor (job .takes) l ≡ true → fitsOf (actionOf (job .frame)) r (length bytes) ≡ true → advancedOf (job .frame) r bytes (l .given) ≡ Advanced.More g →
-        (scratch buffer : List ℕ) → P (steppedAs (movedTo (gaveOf flash job g (deliveredBy (job .frame) r (length bytes) (length (l .buffer)) (flash .delivered)) (actionOf g)) scratch buffer) l))
+    (scratch buffer : List ℕ) → P (steppedAs (movedTo (gaveOf flash job g (deliveredBy (job .frame) r (length bytes) (length (l .buffer)) (flash .delivered)) (actionOf g)) scratch buffer) l))
     (over : (o : Outcome) → readyFor (job .takes) l ≡ true → fitsOf (actionOf (job .frame)) r (length bytes) ≡ true → advancedOf (job .frame) r bytes (l .given) ≡ Advanced.Over o →
-        (scratch buffer : List ℕ) → P (steppedAs (movedTo (settledOf flash (job .takes) (nextOf (flash .setup) (job .phase) o)) scratch buffer) l)) where
+    (scratch buffer : List ℕ) → P (steppedAs (movedTo (settledOf flash (job .takes) (nextOf (flash .setup) (job .phase) o)) scratch buffer) l)) where
   pub step-view : P (steppedAs (proceedOf flash job r bytes (l .scratch) (l .buffer) (l .given)) l)
   unfolding proceedOf exchangeOf
   step-view =

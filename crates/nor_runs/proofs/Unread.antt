@@ -8,7 +8,7 @@ use borrow.Author.Tests.{ltb-true, le-ltb}
 use Rattle.qspi.specs.Choice.{pick}
 use Rattle.qspi.specs.declared.transfer.Sink.{Sink}
 use Rattle.spi_flash.specs.Loan.{Lent}
-use Rattle.spi_flash.specs.Prog.{Prog, ret, _>>=_, _>>_, refuse, transfer}
+use Rattle.spi_flash.specs.Prog.{ret, _>>=_, _>>_, refuse, transfer}
 use Rattle.spi_flash.specs.Path.{Bounded}
 use Rattle.spi_flash.proofs.Cases.{by-cases}
 use Rattle.spi_flash.proofs.Filling.{Fills}

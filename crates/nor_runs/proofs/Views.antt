@@ -8,15 +8,14 @@ use mathlib.Core.List.{List, [], _∷_}
 use lib.ListN.{length}
 use lib.Dec.{ltb}
 use borrow.Author.Tests.{le-ltb}
-use Rattle.qspi.specs.Choice.{pick}
 use Rattle.qspi.specs.Frame.{firstOf}
 use Rattle.qspi.specs.Command.{scratchLeast}
 use Rattle.qspi.specs.declared.transfer.Transfer.{Transfer}
 use Rattle.spi_flash.specs.Loan.{Lent}
-use Rattle.spi_flash.specs.Prog.{Prog, ret, fail, ask}
+use Rattle.spi_flash.specs.Prog.{ret, fail, ask}
 use Rattle.spi_flash.specs.Run as Run
 use Rattle.spi_flash.specs.Run.{Event, call, entry, goesOn, begunWith, runOf, opening, callOf}
-use Rattle.spi_flash.specs.Machine.{more, out, settle, machine, tree, Onward}
+use Rattle.spi_flash.specs.Machine.{more, out, settle, machine, tree}
 use Rattle.spi_flash.specs.declared.error.FlashError.{FlashError}
 use Rattle.spi_flash.specs.declared.loan.Takes.{Takes}
 use Rattle.spi_flash.proofs.Cases.{by-cases}
@@ -36,11 +35,10 @@ use Rattle.nor_driver.specs.declared.state.Job.{Job}
 use Rattle.nor_driver.specs.declared.state.Running.{Running}
 use Rattle.nor_phases.specs.declared.setup.Setup.{Setup}
 use Rattle.nor_driver.specs.declared.state.SpiNorFlash.{SpiNorFlash}
-use Rattle.nor_driver.specs.declared.state.Stepped.{Stepped}
 use Rattle.nor_phases.specs.declared.setup.Then.{Then}
-use Rattle.nor_runs.proofs.Places.{Place, place, decide, decideNext, Valid, Built, Stays}
+use Rattle.nor_runs.proofs.Places.{Place, place, decide, decideNext, Valid, Stays}
 use Rattle.nor_runs.proofs.Simulation.{meaning}
-use Rattle.nor_runs.proofs.Runs.{configOf, runs-same}
+use Rattle.nor_runs.proofs.Runs.{runs-same}
 use Rattle.nor_runs.proofs.Openings.{Selects, SelectsFirst, idle, Use, Construction, Accessor, Release, Opening, usage, construction, accessor, release, opening-of}
 
 -- ---- a call that goes to the bus

@@ -1,6 +1,6 @@
 -- The longest delay that a call asks (document 01: bill), and the most actions that it gives out.
 use Prim.Native.Nat.{ℕ, zero, suc, _+_, _*_, _-_, _/_}
-use mathlib.Core.Bool.{Bool, true, false}
+use mathlib.Core.Bool.{Bool, true}
 use lib.Dec.{ltb, leb}
 use Rattle.qspi.specs.Choice.{pick}
 use Rattle.spi_nor.specs.Opcode.{MAX-BULK-LEN}

@@ -1,6 +1,5 @@
 -- The Rust's program of each call, with the answer and the driver that it leaves behind.
 use Prim.Native.Nat.{ℕ}
-use mathlib.Core.Bool.{Bool}
 use Rattle.spi_flash.specs.Prog.{Prog, ret, _>>=_, _>>_}
 use Rattle.nor_runs.specs.Rust.{read-status1, read-status2, is-busy, jedec-id, unique-id, quad-enabled, enable-quad, disable-quad, read, write, erase-sector, erase-block, erase, Unprotected, unprotect, with-config, new}
 use Rattle.nor_phases.specs.declared.setup.Answer.{Answer}

@@ -4,7 +4,6 @@ use mathlib.Core.Bool.{Bool, true, false}
 use mathlib.Core.List.{List}
 use lib.ListN.{length}
 use Rattle.qspi.specs.Shown.{shownOf}
-use Rattle.qspi.specs.declared.bus.Reply.{Reply}
 use Rattle.spi_flash.specs.Loan.{Lent}
 use Rattle.spi_flash.specs.Machine.{lentAs}
 use Rattle.spi_flash.specs.Run as Run

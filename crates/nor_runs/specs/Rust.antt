@@ -2,11 +2,11 @@
 -- `transfer` is one select frame of the Rust (`command`, `command_then_read`, or a quad call between cs_low and cs_high) or one
 -- delay; a bus error in it ends the call, as `?` does.
 use Prim.Native.Nat.{ℕ, zero, suc, _+_, _-_}
-use mathlib.Core.Bool.{Bool, true, false, not}
-use lib.Dec.{ltb, leb, eqb}
+use mathlib.Core.Bool.{Bool, true, not}
+use lib.Dec.{ltb, eqb}
 use Rattle.qspi.specs.declared.transfer.Sink.{Sink}
 use Rattle.qspi.specs.declared.transfer.Transfer.{Transfer}
-use Rattle.spi_flash.specs.Prog.{Prog, ret, fail, ask, _>>=_, _>>_, if_then_else_, refuse, transfer}
+use Rattle.spi_flash.specs.Prog.{Prog, ret, fail, _>>=_, _>>_, if_then_else_, refuse, transfer}
 use Rattle.spi_flash.specs.WaitLaw.{promptWait}
 use Rattle.spi_flash.specs.declared.error.FlashError.{FlashError}
 use Rattle.spi_nor.specs.Opcode.{timingsOf}
@@ -14,7 +14,7 @@ use Rattle.spi_nor.specs.Status.{busyOf, writeEnabledOf, quadEnabled1Of, quadEn
 use Rattle.spi_nor.specs.Config.{singleConfig}
 use Rattle.spi_nor.specs.Command.{writeEnableCommand, readStatus1Command, readStatus2Command, writeStatus1Command, writeStatus2Command, readIdCommand, readUniqueIdCommand}
 use Rattle.nor_phases.specs.Transfer.{numberTransfer, placeOf, chunkOf, pageOf, readTransfer, programTransfer, eraseTransfer, eraseOperation, inRange, multipleOf, unitSize, stepKind, afterUnit}
-use Rattle.nor_phases.specs.Next.{MAX-VERIFY-PAGE-SIZE, byteOf, idOf, deviceFor, knownAs}
+use Rattle.nor_phases.specs.Next.{MAX-VERIFY-PAGE-SIZE, byteOf, idOf, knownAs}
 use Rattle.nor_driver.specs.Call.{freshSetup}
 use Rattle.spi_nor.specs.declared.config.NorJedecId.{NorJedecId}
 use Rattle.spi_nor.specs.declared.config.QuadSetting.{QuadSetting}

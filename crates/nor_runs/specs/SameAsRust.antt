@@ -1,6 +1,6 @@
 -- Demand 2 for the NOR: every action, result and delivered byte is the Rust's, over any sequence of calls.
-use Prim.Native.Nat.{ℕ, _≤_}
-use mathlib.Core.Bool.{Bool, true, false}
+use Prim.Native.Nat.{_≤_}
+use mathlib.Core.Bool.{true}
 use mathlib.Core.Option.{Option, none, some}
 use mathlib.Core.Path.{_≡_}
 use mathlib.Core.List.{List, [], _∷_}

@@ -1,10 +1,9 @@
 -- The address bytes of the code are those of the datasheets, and are sent whole.
-use Prim.Native.Nat.{ℕ, zero, suc, _+_, _*_, _/_, _%_, _^_, _<_}
+use Prim.Native.Nat.{ℕ, zero, suc, _+_, _*_, _/_, _%_, _^_}
 use native.Mathlib.Nat.{div-one, div-eq-of-lt, div-div-eq-div-mul, pow-suc}
 use native.Mathlib.Omega.{arith}
-use mathlib.Core.Path.{_≡_, refl, ap, sym, _∙_}
-use mathlib.Core.List.{List, [], _∷_}
-use Rattle.qspi.specs.Address.{bigEndian, readFrom, SentWhole, AddressBytes}
+use mathlib.Core.Path.{_≡_, ap, sym, _∙_}
+use Rattle.qspi.specs.Address.{bigEndian, readFrom, AddressBytes}
 
 -- where what was read is the address above the bytes to come, these complete it
 completes : (width a n : ℕ) → n ≡ a / 256 ^ width → readFrom n (bigEndian width a) ≡ a

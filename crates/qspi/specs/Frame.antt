@@ -1,7 +1,6 @@
 -- One transfer, action by action (document 01, "Actions and replies"; the Rust's `command` and `command_then_read`).
 use Prim.Native.Nat.{ℕ}
 use mathlib.Core.List.{List}
-use mathlib.Core.Bool.{Bool, true, false}
 use lib.ListN.{length, drop}
 use Rattle.qspi.specs.Choice.{pick}
 use Rattle.qspi.specs.Bus.{fitsOf}

@@ -1,30 +1,27 @@
 -- The caller's buffer over every run: only the places of the bytes read so far change, and they hold those bytes.
-use Prim.Native.Nat.{ℕ, _+_, _≤_}
-use native.Mathlib.Omega.{arith}
+use Prim.Native.Nat.{ℕ, _+_}
 use native.Mathlib.Nat.{add-zero}
-use mathlib.Core.Bool.{Bool, true, false}
+use mathlib.Core.Bool.{true, false}
 use mathlib.Core.Path.{_≡_, refl, ap, sym, _∙_, subst}
 use mathlib.Core.List.{List, [], _∷_, _++_, append-nil}
-use lib.ListN.{length, drop, length-append}
-use lib.Dec.{ltb, eqb}
+use lib.ListN.{length, length-append}
+use lib.Dec.{ltb}
 use borrow.Author.Tests.{eqb-true}
-use Rattle.qspi.specs.Choice.{pick}
 use Rattle.qspi.specs.Bus.{fitsOf}
 use Rattle.qspi.specs.Command.{scratchLeast}
-use Rattle.qspi.specs.Frame.{firstOf, actionOf, sinkOf, takenAt, takenIn, frameAt, advancedAt, advancedOf, gave, exchangeOf}
+use Rattle.qspi.specs.Frame.{firstOf, actionOf, takenIn, frameAt, advancedOf, gave, exchangeOf}
 use Rattle.qspi.specs.declared.bus.Reply.{Reply}
 use Rattle.qspi.specs.declared.transfer.Transfer.{Transfer}
 use Rattle.qspi.specs.declared.frame.Stage.{Stage}
 use Rattle.qspi.specs.declared.frame.Outcome.{Outcome}
 use Rattle.qspi.specs.declared.frame.Advanced.{Advanced}
-use Rattle.qspi.specs.declared.frame.Exchanged.{Exchanged}
 use Rattle.qspi.specs.declared.frame.Frame.{Frame}
 use Rattle.spi_flash.specs.declared.loan.Takes.{Takes}
 use Rattle.spi_flash.specs.Loan.{Lent, readyOf, readyFor}
-use Rattle.spi_flash.specs.Prog.{Prog, ret, fail, ask}
-use Rattle.spi_flash.specs.Run.{Event, reply, call, Given, act, ended, failed, refused, Entry, Moved, goesOn}
+use Rattle.spi_flash.specs.Prog.{Prog}
+use Rattle.spi_flash.specs.Run.{Event, reply, call, Entry, Moved, goesOn}
 use Rattle.spi_flash.specs.Machine.{Decision, more, well, bad, Config, out, rest, lentAs, settle, moved, machine, tree, Onward, Simulates}
-use Rattle.spi_flash.specs.Seen.{lentTo, unlessRefused, Taken, Undisturbed, dataAt, SameFrom, ChangesRead, inFront, HoldsRead}
+use Rattle.spi_flash.specs.Seen.{unlessRefused, Taken, Undisturbed, dataAt, SameFrom, ChangesRead, inFront, HoldsRead}
 use Rattle.spi_flash.proofs.Cases.{by-cases}
 use Rattle.spi_flash.proofs.OnBus.{false≢true}
 use Rattle.spi_flash.proofs.Filling.{Fills, FillsOn, Filling, FillsNext, Fed, fed}

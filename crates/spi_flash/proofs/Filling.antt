@@ -2,16 +2,14 @@
 use Prim.Native.Nat.{ℕ, _+_, _-_, _≤_}
 use native.Mathlib.Omega.{arith}
 use native.Mathlib.Nat.{add-zero}
-use mathlib.Core.Bool.{Bool, true, false}
+use mathlib.Core.Bool.{true, false}
 use mathlib.Core.Path.{_≡_, refl, ap, sym, _∙_, subst}
-use mathlib.Core.List.{List, [], _∷_, _++_, append-assoc, append-nil}
-use lib.ListN.{length, take, drop, length-append, length-drop}
+use mathlib.Core.List.{List, [], _++_, append-nil}
+use lib.ListN.{length, take, drop, length-append}
 use lib.Seq.{paste, length-paste, drop-paste, take-at, take-length, drop-append-add, drop-drop}
-use lib.Dec.{leb, eqb}
-use borrow.Author.Tests.{eqb-true, leb-true, le-leb}
-use Rattle.qspi.specs.Choice.{pick}
+use borrow.Author.Tests.{eqb-true, le-leb}
 use Rattle.qspi.specs.Bus.{awaitsOf, fitsAt}
-use Rattle.qspi.specs.Bytes.{deliveredOf, endOf}
+use Rattle.qspi.specs.Bytes.{deliveredOf}
 use Rattle.qspi.specs.Frame.{actionAt, startAction, sinkOf, frameAt, takenAt, deliveredAt, advancedAt}
 use Rattle.qspi.specs.declared.bus.Reply.{Reply}
 use Rattle.qspi.specs.declared.transfer.Sink.{Sink}
@@ -22,7 +20,6 @@ use Rattle.qspi.specs.declared.frame.Advanced.{Advanced}
 use Rattle.qspi.specs.declared.frame.Frame.{Frame}
 use Rattle.spi_flash.specs.Prog.{Prog, ret, fail, ask}
 use Rattle.spi_flash.specs.Seen.{dataAt, SameFrom, inFront}
-use Rattle.spi_flash.proofs.Cases.{by-cases}
 use Rattle.spi_flash.proofs.OnBus.{false≢true, Reached, done-at-start}
 
 -- ---- programs

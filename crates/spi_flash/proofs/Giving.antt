@@ -3,10 +3,9 @@ use mathlib.Core.Bool.{Bool, true, false}
 use mathlib.Core.Path.{_≡_, refl, ap, sym, _∙_, subst}
 use mathlib.Core.List.{List, [], _∷_, _++_, append-assoc, append-nil}
 use Rattle.qspi.specs.declared.transfer.Transfer.{Transfer}
-use Rattle.qspi.specs.declared.frame.Outcome.{Outcome}
 use Rattle.spi_flash.specs.declared.error.FlashError.{FlashError}
-use Rattle.spi_flash.specs.Prog.{Prog, ret, fail, ask, _>>=_, _>>_, refuse, transfer, if_then_else_}
-use Rattle.spi_flash.specs.Path.{Past, back, End, going, done, failed, Every, seen, Prefix, Giving, Gives}
+use Rattle.spi_flash.specs.Prog.{Prog, ret, fail, _>>=_, _>>_, refuse, transfer, if_then_else_}
+use Rattle.spi_flash.specs.Path.{Past, back, End, going, done, failed, seen, Prefix, Giving, Gives}
 use Rattle.spi_flash.proofs.Laws.{every-bind, every-mono}
 
 module _ {X : Type 0} where

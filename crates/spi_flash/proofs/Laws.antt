@@ -1,5 +1,5 @@
 -- The laws of paths: what holds of a program's parts holds of the program.
-use Prim.Native.Nat.{ℕ, _+_, _≤_, _<_}
+use Prim.Native.Nat.{ℕ, _+_, _≤_}
 use native.Mathlib.Omega.{arith}
 use native.Mathlib.Nat.{add-assoc, zero-add}
 use mathlib.Core.Path.{_≡_, refl, ap, sym, subst, _∙_}
@@ -9,7 +9,7 @@ use Rattle.qspi.specs.declared.transfer.Transfer.{Transfer}
 use Rattle.qspi.specs.declared.frame.Outcome.{Outcome}
 use Rattle.spi_flash.specs.declared.error.FlashError.{FlashError}
 use Rattle.spi_flash.specs.Prog.{Prog, ret, fail, ask, _>>=_, _>>_, if_then_else_, refuse, transfer}
-use Rattle.spi_flash.specs.Path.{Past, back, End, going, done, failed, spent, underway, asked, Every, Some, Well, IfWell, Fits, Bounded, Reaches, Ends, AtLeast, Never}
+use Rattle.spi_flash.specs.Path.{Past, back, End, going, done, failed, spent, asked, Every, Some, Well, IfWell, Fits, Bounded, Reaches, Ends, AtLeast, Never}
 
 -- ---- every path
 

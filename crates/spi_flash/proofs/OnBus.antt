@@ -1,18 +1,15 @@
 -- The frames of a transfer are the Rust's bus calls: a reply that fits does to both the same.
-use Prim.Native.Nat.{ℕ, _≤_}
+use Prim.Native.Nat.{ℕ}
 use native.Mathlib.Omega.{arith}
-use mathlib.Core.Bool.{Bool, true, false}
-use mathlib.Core.Path.{_≡_, refl, ap, ap₂, sym, _∙_, subst}
-use mathlib.Core.List.{List, [], _∷_}
+use mathlib.Core.Bool.{true, false}
+use mathlib.Core.Path.{_≡_, refl, sym, subst}
+use mathlib.Core.List.{List}
 use lib.ListN.{length}
-use lib.Dec.{ltb}
-use Rattle.qspi.specs.Choice.{pick}
-use Rattle.qspi.specs.Bus.{awaitsOf, fitsAt, fitsOf}
-use Rattle.qspi.specs.Bytes.{numberOf, beginsOf}
-use Rattle.qspi.specs.Command.{commandBytes, scratchLeast}
-use Rattle.qspi.specs.Shown.{Shown, low, high, write, read, quadRead, quadWrite, delay, shownOf}
+use Rattle.qspi.specs.Bus.{awaitsOf, fitsAt}
+use Rattle.qspi.specs.Command.{commandBytes}
+use Rattle.qspi.specs.Shown.{high, write, read, quadRead, quadWrite}
 use Rattle.qspi.specs.ShownBytes.{payloadBytes, startShown, shownAt}
-use Rattle.qspi.specs.Frame.{firstOf, actionOf, actionAt, startAction, sinkOf, valueOf, takenAt, takenIn, frameAt, advancedAt, advancedOf, gave, exchangeOf}
+use Rattle.qspi.specs.Frame.{actionAt, startAction, sinkOf, valueOf, takenAt, frameAt, advancedAt}
 use Rattle.qspi.specs.declared.bus.Awaits.{Awaits}
 use Rattle.qspi.specs.declared.bus.Reply.{Reply}
 use Rattle.qspi.specs.declared.transfer.Sink.{Sink}
@@ -20,11 +17,9 @@ use Rattle.qspi.specs.declared.transfer.Transfer.{Transfer}
 use Rattle.qspi.specs.declared.frame.Stage.{Stage}
 use Rattle.qspi.specs.declared.frame.Outcome.{Outcome}
 use Rattle.qspi.specs.declared.frame.Advanced.{Advanced}
-use Rattle.qspi.specs.declared.frame.Frame.{Frame}
 use Rattle.spi_flash.specs.declared.error.FlashError.{FlashError}
 use Rattle.spi_flash.specs.Run.{Answer}
-use Rattle.spi_flash.specs.Seen.{Did, did}
-use Rattle.spi_flash.specs.OnBus.{BusProg, answers, stops, does, fills, _>>=_, _>>_, Result, ok, err, resultAt, plain, sending, stored, reading, question, ifOk, framed, framedThen, onBus, performed}
+use Rattle.spi_flash.specs.OnBus.{BusProg, answers, stops, does, _>>=_, _>>_, Result, ok, resultAt, plain, sending, stored, reading, question, ifOk, framed, framedThen, onBus, performed}
 
 pub false≢true : false ≡ true → ⊥
 false≢true h = let z : _≡_ {A = ℕ} 0 1 = cc in omega arith

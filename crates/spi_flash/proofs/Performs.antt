@@ -1,34 +1,30 @@
 -- A run gives what its program does on the bus.
 use Prim.Native.Nat.{ℕ, _≤_}
-use native.Mathlib.Omega.{arith}
-use mathlib.Core.Bool.{Bool, true, false}
+use mathlib.Core.Bool.{true, false}
 use mathlib.Core.Path.{_≡_, refl, ap, ap₂, sym, _∙_, subst}
 use mathlib.Core.List.{List, [], _∷_}
 use lib.ListN.{length}
 use lib.Dec.{ltb}
 use borrow.Author.Tests.{ltb-false}
-use Rattle.qspi.specs.Choice.{pick}
 use Rattle.qspi.specs.Bus.{fitsOf}
 use Rattle.qspi.specs.Command.{scratchLeast}
 use Rattle.qspi.specs.Shown.{Shown, shownOf}
 use Rattle.qspi.specs.ShownBytes.{startShown, shownAt}
-use Rattle.qspi.specs.Frame.{firstOf, actionOf, sinkOf, takenAt, takenIn, frameAt, givenScratch, exchangedTo, advancedAt, advancedOf, gave, exchangeOf}
+use Rattle.qspi.specs.Frame.{firstOf, actionOf, sinkOf, takenAt, takenIn, frameAt, advancedAt, advancedOf, gave, exchangeOf}
 use Rattle.qspi.proofs.Sent.{shown-bytes}
 use Rattle.qspi.specs.declared.bus.Reply.{Reply}
 use Rattle.qspi.specs.declared.transfer.Transfer.{Transfer}
 use Rattle.qspi.specs.declared.frame.Stage.{Stage}
 use Rattle.qspi.specs.declared.frame.Outcome.{Outcome}
 use Rattle.qspi.specs.declared.frame.Advanced.{Advanced}
-use Rattle.qspi.specs.declared.frame.Exchanged.{Exchanged}
 use Rattle.qspi.specs.declared.frame.Frame.{Frame}
-use Rattle.spi_flash.specs.declared.error.FlashError.{FlashError}
 use Rattle.spi_flash.specs.declared.loan.Takes.{Takes}
 use Rattle.spi_flash.specs.Loan.{Lent, readyOf, readyFor}
-use Rattle.spi_flash.specs.Prog.{Prog, ret, fail, ask}
-use Rattle.spi_flash.specs.Run.{Event, reply, call, Given, act, ended, failed, refused, Entry, Moved, goesOn, fittingThen, Fitting, Answer}
-use Rattle.spi_flash.specs.Machine.{Decision, more, well, bad, Config, out, rest, lentAs, heard, settle, moved, answered, machine, tree, Onward, Simulates}
-use Rattle.spi_flash.specs.Seen.{lentTo, Did, did, toldThen, told, repliesOf, unlessRefused, Taken, SameData, Undisturbed}
-use Rattle.spi_flash.specs.OnBus.{BusProg, answers, stops, does, fills, _>>=_, programOnBus, performed}
+use Rattle.spi_flash.specs.Prog.{Prog, ask}
+use Rattle.spi_flash.specs.Run.{Event, reply, call, act, Entry, Moved, goesOn, fittingThen, Fitting, Answer}
+use Rattle.spi_flash.specs.Machine.{Decision, more, well, bad, Config, out, rest, lentAs, settle, moved, machine, tree, Onward, Simulates}
+use Rattle.spi_flash.specs.Seen.{Did, did, toldThen, told, repliesOf, unlessRefused, Taken, SameData, Undisturbed}
+use Rattle.spi_flash.specs.OnBus.{BusProg, does, programOnBus, performed}
 use Rattle.spi_flash.proofs.Cases.{by-cases}
 use Rattle.spi_flash.proofs.OnBus.{false≢true, answerOf, concluded, behind, Proper, onward, Goes, Follows, starts, follows}
 

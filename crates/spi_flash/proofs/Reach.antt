@@ -1,13 +1,13 @@
 -- What some path of a program comes to, some list of fitting replies brings the run to, whatever scratch and buffer are lent.
-use Prim.Native.Nat.{ℕ, suc, _+_}
+use Prim.Native.Nat.{ℕ, suc}
 use native.Mathlib.Omega.{arith}
-use mathlib.Core.Bool.{Bool, true, false}
-use mathlib.Core.Path.{_≡_, refl, ap, sym, _∙_, subst}
+use mathlib.Core.Bool.{true}
+use mathlib.Core.Path.{_≡_, refl, sym, subst}
 use mathlib.Core.List.{List, [], _∷_, _++_}
 use lib.ListN.{length}
 use borrow.Author.Tests.{eq-eqb}
 use Rattle.qspi.specs.Bus.{fitsOf}
-use Rattle.qspi.specs.Frame.{firstOf, actionOf, exchangeOf, advancedOf, frameAt, takenIn, gave, valueOf}
+use Rattle.qspi.specs.Frame.{firstOf, actionOf, exchangeOf, advancedOf, frameAt, valueOf}
 use Rattle.qspi.specs.declared.bus.Reply.{Reply}
 use Rattle.qspi.specs.declared.transfer.Transfer.{Transfer}
 use Rattle.qspi.specs.declared.transfer.Sink.{Sink}
@@ -16,11 +16,11 @@ use Rattle.qspi.specs.declared.frame.Stage.{Stage}
 use Rattle.qspi.specs.declared.frame.Outcome.{Outcome}
 use Rattle.qspi.specs.declared.frame.Advanced.{Advanced}
 use Rattle.spi_flash.specs.declared.loan.Takes.{Takes}
-use Rattle.spi_flash.specs.Loan.{Lent, readyFor}
+use Rattle.spi_flash.specs.Loan.{Lent}
 use Rattle.spi_flash.specs.Prog.{Prog, ret, fail, ask}
-use Rattle.spi_flash.specs.Path.{Past, back, End, going, done, failed, Some, Fits, Answers}
-use Rattle.spi_flash.specs.Run.{Event, Entry, goesOn, fittingThen, Fitting, endedThen, HasEnded, Answer, RealReplies, answering, Lending}
-use Rattle.spi_flash.specs.Machine.{Decision, more, well, bad, Config, out, rest, settle, machine, tree, Onward, Simulates, Trail, decidedTrail, trail}
+use Rattle.spi_flash.specs.Path.{Past, back, End, done, failed, Some, Fits, Answers}
+use Rattle.spi_flash.specs.Run.{Entry, goesOn, fittingThen, Fitting, endedThen, HasEnded, Answer, RealReplies, answering, Lending}
+use Rattle.spi_flash.specs.Machine.{Decision, more, well, bad, out, settle, machine, tree, Onward, Simulates, Trail, decidedTrail, trail}
 
 -- ---- the values of a path, to the call's end
 

@@ -3,15 +3,14 @@ use Prim.Native.Nat.{ℕ, suc, _+_, _≤_, _<_}
 use native.Mathlib.Omega.{arith}
 use mathlib.Core.Bool.{Bool, true, false}
 use mathlib.Core.Logic.{_⊎_, inl, inr, ⊎-elim}
-use mathlib.Core.Path.{_≡_, refl, ap, sym, _∙_, subst}
-use mathlib.Core.List.{List, [], _∷_, _++_}
+use mathlib.Core.Path.{_≡_, refl, ap, _∙_, subst}
+use mathlib.Core.List.{List, [], _∷_}
 use lib.ListN.{length}
 use lib.Dec.{lit<}
 use Rattle.qspi.specs.Choice.{pick}
 use Rattle.qspi.specs.Bus.{awaitsOf, fitsAt, fitsOf}
 use Rattle.qspi.specs.Shown.{shownOf, delayOf}
-use Rattle.qspi.specs.Frame.{firstOf, actionOf, actionAt, commandAction, payloadAction, exchangedTo, givenScratch, exchangeOf, advancedOf, advancedAt, frameAt, movedOn, nextStage, gave, takenIn}
-use Rattle.qspi.specs.declared.bus.Action.{Action}
+use Rattle.qspi.specs.Frame.{firstOf, actionOf, actionAt, commandAction, payloadAction, exchangedTo, exchangeOf, advancedOf, advancedAt, frameAt, movedOn, nextStage, gave, takenIn}
 use Rattle.qspi.specs.declared.bus.Reply.{Reply}
 use Rattle.qspi.specs.declared.transfer.Transfer.{Transfer}
 use Rattle.qspi.specs.declared.frame.Frame.{Frame}
@@ -20,13 +19,12 @@ use Rattle.qspi.specs.declared.frame.Outcome.{Outcome}
 use Rattle.qspi.specs.declared.frame.Following.{Following}
 use Rattle.qspi.specs.declared.frame.Advanced.{Advanced}
 use Rattle.qspi.specs.declared.frame.Exchanged.{Exchanged}
-use Rattle.spi_flash.specs.declared.error.FlashError.{FlashError}
 use Rattle.spi_flash.specs.declared.loan.Takes.{Takes}
 use Rattle.spi_flash.specs.Loan.{Lent, readyFor}
-use Rattle.spi_flash.specs.Prog.{Prog, ret, fail, ask}
-use Rattle.spi_flash.specs.Path.{Past, back, End, going, done, failed, Every, spent, underway, asked, delays, actions, Bounded}
+use Rattle.spi_flash.specs.Prog.{Prog, ask}
+use Rattle.spi_flash.specs.Path.{Past, back, End, Every, asked, delays, actions, Bounded}
 use Rattle.spi_flash.specs.Run.{Event, reply, call, Entry, Moved, goesOn, delayGiven, delayAsked, fittingThen, Fitting, endedThen, HasEnded}
-use Rattle.spi_flash.specs.Machine.{Decision, more, well, bad, Config, out, rest, lentAs, heard, settle, moved, answered, machine, tree, Onward, Simulates, Trail, push, decidedTrail, heardTrail, trail}
+use Rattle.spi_flash.specs.Machine.{Decision, more, well, bad, Config, out, rest, lentAs, heard, settle, moved, machine, tree, Onward, Simulates, Trail, push, decidedTrail, heardTrail, trail}
 
 -- ---- one reply to a frame
 

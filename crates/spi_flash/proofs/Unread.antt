@@ -22,7 +22,7 @@ use Rattle.spi_flash.specs.declared.wait.Timings.{Timings}
 use Rattle.spi_flash.specs.Loan.{Lent}
 use Rattle.spi_flash.specs.Prog.{Prog, ask}
 use Rattle.spi_flash.specs.WaitLaw.{waitLoop, waiting, promptWait}
-use Rattle.spi_flash.specs.Path.{Past, End, asked, Bounded}
+use Rattle.spi_flash.specs.Path.{Bounded}
 use Rattle.spi_flash.specs.Run.{Event, reply, call, Moved, goesOn}
 use Rattle.spi_flash.specs.Machine.{Decision, more, well, bad, Config, out, rest, lentAs, settle, moved, machine, tree, Onward, Simulates}
 use Rattle.spi_flash.specs.Seen.{KeepsBuffer}

@@ -3,20 +3,19 @@ use Prim.Native.Nat.{ℕ, zero, suc, _+_, _-_, _*_, _/_, _%_, _≤_, _<_}
 use native.Mathlib.Omega.{arith}
 use native.Mathlib.Nat.{mul-le-mul-left, mul-le-mul-right, div-add-mod', mod-lt}
 use mathlib.Core.Bool.{Bool, true, false, not}
-use mathlib.Core.Path.{_≡_, refl, ap, sym, subst, _∙_}
-use mathlib.Core.List.{List, [], _∷_, _++_}
-use borrow.Author.Tests.{le-leb, lt-leb, leb-true, leb-false}
+use mathlib.Core.Path.{_≡_, refl, ap, sym, _∙_}
+use mathlib.Core.List.{List, [], _∷_}
+use borrow.Author.Tests.{le-leb, lt-leb, leb-false}
 use lib.Dec.{leb, lit<}
 use Rattle.qspi.specs.declared.command.Command.{Command}
 use Rattle.qspi.specs.declared.transfer.Sink.{Sink}
 use Rattle.qspi.specs.declared.transfer.Transfer.{Transfer}
-use Rattle.qspi.specs.declared.frame.Outcome.{Outcome}
 use Rattle.spi_flash.specs.declared.error.FlashError.{FlashError}
 use Rattle.spi_flash.specs.declared.wait.Timings.{Timings}
-use Rattle.spi_flash.specs.Prog.{Prog, ret, fail, ask, _>>=_, _>>_, if_then_else_, transfer}
-use Rattle.spi_flash.specs.Path.{Past, back, End, going, done, failed, Every, spent, delays, Bounded, Ends, Answers}
-use Rattle.spi_flash.specs.WaitLaw.{lookAt, waitLoop, waiting, delayedWait, promptWait, WaitLoop, pollCount, largestSum, looks, lookWeight, WaitStep, Turn, looking, pausing, TakesTurns, WaitLaw, WaitInGeneral}
-use Rattle.spi_flash.proofs.Laws.{every-mono, bounded-ask, bounded-ret, bounded-fail, bounded-then, bounded-if, bounded-more, bounded-transfer, ends-ask, ends-ret, ends-then, ends-transfer, ends-eq}
+use Rattle.spi_flash.specs.Prog.{Prog, ret, fail, _>>=_, _>>_, if_then_else_, transfer}
+use Rattle.spi_flash.specs.Path.{Every, delays, Bounded, Ends, Answers}
+use Rattle.spi_flash.specs.WaitLaw.{lookAt, waitLoop, waiting, delayedWait, promptWait, WaitLoop, pollCount, lookWeight, looking, pausing, TakesTurns, WaitLaw, WaitInGeneral}
+use Rattle.spi_flash.proofs.Laws.{bounded-ask, bounded-ret, bounded-fail, bounded-then, bounded-if, bounded-more, bounded-transfer, ends-ask, ends-ret, ends-then, ends-transfer, ends-eq}
 
 -- the least number of polls after which the sum is at or above the limit
 record Least (first poll limit k : ℕ) : Type 0 where

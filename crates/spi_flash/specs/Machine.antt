@@ -5,7 +5,7 @@ use mathlib.Core.Path.{_≡_}
 use mathlib.Core.List.{List, [], _∷_}
 use Rattle.qspi.specs.Choice.{pick}
 use Rattle.qspi.specs.Shown.{shownOf}
-use Rattle.qspi.specs.Frame.{AfterExchange, firstOf, actionOf, exchangeOf}
+use Rattle.qspi.specs.Frame.{firstOf, actionOf, exchangeOf}
 use Rattle.qspi.specs.declared.bus.Reply.{Reply}
 use Rattle.qspi.specs.declared.transfer.Transfer.{Transfer}
 use Rattle.qspi.specs.declared.frame.Frame.{Frame}
@@ -16,7 +16,7 @@ use Rattle.spi_flash.specs.declared.loan.Takes.{Takes}
 use Rattle.spi_flash.specs.Loan.{Lent, readyFor}
 use Rattle.spi_flash.specs.Prog.{Prog, ret, fail, ask}
 use Rattle.spi_flash.specs.Path.{Past, back, End, going, done, failed}
-use Rattle.spi_flash.specs.Run.{Event, reply, call, Given, act, Moved, System}
+use Rattle.spi_flash.specs.Run.{Event, reply, call, act, Moved, System}
 use Rattle.spi_flash.specs.Run as Run
 
 -- what follows a transfer: another one, or the call's end

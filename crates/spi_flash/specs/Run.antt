@@ -1,7 +1,7 @@
 -- A run: one call's beginning, then any list of events, each with lent bytes of its own (document 01, "A run, as demand 3
 -- takes it").
 use Prim.Native.Nat.{ℕ, _+_}
-use mathlib.Core.Bool.{Bool, true, false}
+use mathlib.Core.Bool.{Bool, true}
 use mathlib.Core.Path.{_≡_}
 use mathlib.Core.List.{List, [], _∷_}
 use Rattle.qspi.specs.Choice.{pick}

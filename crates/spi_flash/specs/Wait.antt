@@ -1,6 +1,6 @@
 -- The rule of a wait (document 01, "Wait limits"; the Rust's two functions `wait_ready`).
 use Prim.Native.Nat.{ℕ, _+_, _-_}
-use mathlib.Core.Bool.{Bool, true, false}
+use mathlib.Core.Bool.{Bool}
 use lib.Dec.{leb, eqb}
 use Rattle.qspi.specs.Choice.{pick}
 use Rattle.spi_flash.specs.declared.wait.Timings.{Timings}

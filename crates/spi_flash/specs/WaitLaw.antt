@@ -12,7 +12,7 @@ use Rattle.qspi.specs.declared.frame.Outcome.{Outcome}
 use Rattle.spi_flash.specs.declared.error.FlashError.{FlashError}
 use Rattle.spi_flash.specs.declared.wait.Timings.{Timings}
 use Rattle.spi_flash.specs.Prog.{Prog, ret, fail, _>>=_, _>>_, if_then_else_, transfer}
-use Rattle.spi_flash.specs.Path.{Past, back, End, going, done, failed, spent, delays, Every, Bounded, Ends}
+use Rattle.spi_flash.specs.Path.{Past, back, End, going, done, failed, delays, Every, Bounded, Ends}
 
 -- ---- the Rust's loop
 
