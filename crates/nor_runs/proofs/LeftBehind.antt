@@ -121,10 +121,10 @@ module _ (setup : Setup) (built : Bool) (delivered : ℕ) (c : Call) (l : Lent) 
 
   -- of a beginning that is known
   left-of : (m : Run.Moved SpiNorFlash Left) → nor .begin flash c l ≡ m →
-      driverOf (stateAfter nor (m .flash) es) ≡ driverAfter (sortOf c) (driverOf flash) (leftBy (toldThen (atOnce nor (m .given)) (m .left .buffer) (told (goesOn nor (m .flash) es)))) → Leaves
+      driverOf (stateAfter nor (m .flash) es) ≡ driverAfter (sortOf c) (driverOf flash) (leftBy (toldThen (atOnce (m .given)) (m .left .buffer) (told (goesOn nor (m .flash) es)))) → Leaves
   unfolding told callOf
   left-of m e h = subst
-      (λ x. driverOf (stateAfter nor (x .flash) es) ≡ driverAfter (sortOf c) (driverOf flash) (leftBy (toldThen (atOnce nor (x .given)) (x .left .buffer) (told (goesOn nor (x .flash) es)))))
+      (λ x. driverOf (stateAfter nor (x .flash) es) ≡ driverAfter (sortOf c) (driverOf flash) (leftBy (toldThen (atOnce (x .given)) (x .left .buffer) (told (goesOn nor (x .flash) es)))))
       (sym e) h
 
   answered-left : Answered flash c l → Usable flash c l → Leaves

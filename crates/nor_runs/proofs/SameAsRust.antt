@@ -31,9 +31,9 @@ module _ (flash : SpiNorFlash) (c : Call) (l : Lent) (es : List (Event Call)) wh
   answered-same : Answered flash c l → told (callOf nor flash c l es) ≡ rustCall (flash .setup) c l es
   unfolding told callOf programOnBus performed
   answered-same (gives a u n p is k) =
-      ap (λ m. toldThen (atOnce nor (m .given)) (m .left .buffer) (told (goesOn nor (m .flash) es))) is ∙ sym (rust-is _ p)
+      ap (λ m. toldThen (atOnce (m .given)) (m .left .buffer) (told (goesOn nor (m .flash) es))) is ∙ sym (rust-is _ p)
   answered-same (turns e p is k) =
-      ap (λ m. toldThen (atOnce nor (m .given)) (m .left .buffer) (told (goesOn nor (m .flash) es))) is ∙ sym (rust-is _ p)
+      ap (λ m. toldThen (atOnce (m .given)) (m .left .buffer) (told (goesOn nor (m .flash) es))) is ∙ sym (rust-is _ p)
 
   opened-same : (o : Opens flash c l) → Regular flash c l es → told (callOf nor flash c l es) ≡ rustCall (flash .setup) c l es
   unfolding told Fitting SameData Undisturbed

@@ -78,7 +78,7 @@ pub opens-call : {flash : SpiNorFlash} {c : Call} {l : Lent} (o : Opens flash c 
     entry (call c l) (settle (takesOf c l) (more (o .first) (o .at)) l) ∷ goesOn (machine decideNext Call) (out (takesOf c l) (o .at) (firstOf (o .first))) es
 unfolding callOf settledOf
 opens-call {flash} {c} {l} o es =
-    ap (λ m. opening nor c l m ∷ goesOn nor (m .flash) es) (o .is)
+    ap (λ m. opening c l m ∷ goesOn nor (m .flash) es) (o .is)
     ∙ ap (λ xs. entry (call c l) (settle (takesOf c l) (more (o .first) (o .at)) l) ∷ xs) (runs-same (runningAt (o .at) (o .built) (takesOf c l) (o .first)) es)
 
 -- ---- a call that ends at once

@@ -45,6 +45,16 @@ pub record System (F C A : Type 0) : Type 0 where
 abbrev pub entry : {F C A : Type 0} → Event C → Moved F A → Entry C A
 entry e m = record { event = e; given = m .given; left = m .left }
 
+-- a beginning; what is turned away before the bus has failed, as in the Rust
+abbrev pub atOnce : {A : Type 0} → Given A → Given A
+atOnce (act shown) = act shown
+atOnce (ended a) = ended a
+atOnce (failed e) = failed e
+atOnce (refused e) = failed e
+
+abbrev pub opening : {F C A : Type 0} → C → Lent → Moved F A → Entry C A
+opening c l m = record { event = call c l; given = atOnce (m .given); left = m .left }
+
 module _ {F C A : Type 0} (system : System F C A) where
   -- a call begun after the end is another run: the list stops before it
   unfoldable pub goesOn : F → List (Event C) → List (Entry C A)
@@ -63,16 +73,7 @@ module _ {F C A : Type 0} (system : System F C A) where
   unfoldable pub runOf : F → C → Lent → List (Event C) → List (Entry C A)
   runOf f c l es = begunWith (system .begin f c l .given) c l (system .begin f c l) es
 
-  -- a call from its beginning, one that ends at once too; what is turned away before the bus has failed, as in the Rust
-  abbrev pub atOnce : Given A → Given A
-  atOnce (act shown) = act shown
-  atOnce (ended a) = ended a
-  atOnce (failed e) = failed e
-  atOnce (refused e) = failed e
-
-  abbrev pub opening : C → Lent → Moved F A → Entry C A
-  opening c l m = record { event = call c l; given = atOnce (m .given); left = m .left }
-
+  -- a call from its beginning, one that ends at once too
   unfoldable pub callOf : F → C → Lent → List (Event C) → List (Entry C A)
   callOf f c l es = opening c l (system .begin f c l) ∷ goesOn (system .begin f c l .flash) es
 
