@@ -59,26 +59,14 @@ fn run(
     while i < BUDGET {
         let given = now.given;
         let flash = now.flash;
-        match given {
-            Given::Act(action) => {
-                let left = script::rest(replies, at);
-                print::action(action, scratch, data);
-                now = perform(flash, action, left, scratch, buffer, data);
-                at += script::used(action, left);
-            }
-            Given::Ended(_) => {
-                print::end(0);
-                return flash;
-            }
-            Given::Failed(error) => {
-                print::end(error.number());
-                return flash;
-            }
-            Given::Refused(error) => {
-                print::end(error.number());
-                return flash;
-            }
-        }
+        let Given::Act(action) = given else {
+            print::end(given);
+            return flash;
+        };
+        let left = script::rest(replies, at);
+        print::action(action, scratch, data);
+        now = perform(flash, action, left, scratch, buffer, data);
+        at += script::used(action, left);
         i += 1;
     }
     now.flash

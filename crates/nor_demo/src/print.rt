@@ -1,4 +1,6 @@
 // The lines that are printed: a letter, and what belongs to it with a blank before each value.
+use nor_driver::state::Given;
+use nor_phases::setup::Answer;
 use qspi::bus::Action;
 use qspi::bytes;
 ghost use mathlib.Core.Path.{_≡_};
@@ -91,11 +93,29 @@ pub(crate) fn action<'a>(a: Action, scratch: &'a [u8], data: &'a [u8]) {
     io::write_all(STDOUT, b"\n");
 }
 
-// The number of a call's end, 0 for success.
-pub(crate) fn end(number: u8) {
-    io::write_all(STDOUT, b"E");
-    decimal(number as u64);
+// The answer's values, if it has any.
+fn answer(a: Answer) {
+    let n = a.value_count();
+    if n == 0 {
+        return;
+    }
+    io::write_all(STDOUT, b"V");
+    let mut i = 0;
+    while i < n {
+        decimal(a.value(i));
+        i += 1;
+    }
     io::write_all(STDOUT, b"\n");
+}
+
+// The number of a call's end, 0 for success, and under it what the call answers.
+pub(crate) fn end(given: Given) {
+    io::write_all(STDOUT, b"E");
+    decimal(given.number() as u64);
+    io::write_all(STDOUT, b"\n");
+    if let Given::Ended(a) = given {
+        answer(a);
+    }
 }
 
 // The bytes that a call has delivered.

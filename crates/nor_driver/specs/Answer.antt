@@ -1,13 +1,8 @@
--- The numbers and values of what a step gives: document 01's number, and the values as a trace prints them.
+-- How a step has ended the call: document 01's number, and the values as a trace prints them.
 use Prim.Native.Nat.{ℕ}
-use mathlib.Core.Bool.{Bool, true, false}
-use mathlib.Core.List.{List, [], _∷_, _++_}
+use mathlib.Core.List.{List}
 use Rattle.spi_flash.specs.Error.{errorNumber, errorValues}
-use Rattle.spi_nor.specs.declared.config.DeviceSetting.{DeviceSetting}
-use Rattle.spi_nor.specs.declared.config.NorDeviceInfo.{NorDeviceInfo}
-use Rattle.spi_nor.specs.declared.config.NorJedecId.{NorJedecId}
-use Rattle.spi_nor.specs.declared.config.QuadSetting.{QuadSetting}
-use Rattle.nor_phases.specs.declared.setup.Answer.{Answer}
+use Rattle.nor_phases.specs.Answer.{answerValues}
 use Rattle.nor_driver.specs.declared.state.Given.{Given}
 
 -- "0 is success"; an action has not ended, and has no number
@@ -15,37 +10,17 @@ pub data Ending : Type 0 where
   goes : Ending
   endsWith : (number : ℕ) (values : List ℕ) → Ending
 
-abbrev pub flagValue : Bool → ℕ
-flagValue true = 1
-flagValue false = 0
-
-abbrev pub idValues : NorJedecId → List ℕ
-idValues id = id .manufacturer ∷ id .«memory_type» ∷ id .capacity ∷ []
-
-abbrev pub deviceValues : NorDeviceInfo → List ℕ
-deviceValues d = d .capacity ∷ d .«sector_size» ∷ d .«block_size» ∷ d .«page_size» ∷ []
-
-abbrev pub quadValues : QuadSetting → List ℕ
-quadValues QuadSetting.Single = 0 ∷ []
-quadValues (QuadSetting.Quad q) = 1 ∷ q .«tclqv_ns» ∷ q .«read_opcode» ∷ q .«page_program_opcode» ∷ q .«dummy_margin» ∷ []
-
-abbrev pub ownValues : DeviceSetting → List ℕ
-ownValues DeviceSetting.Detect = 0 ∷ []
-ownValues (DeviceSetting.Given d) = 1 ∷ deviceValues d
-
-abbrev pub answerValues : Answer → List ℕ
-answerValues Answer.Done = []
-answerValues (Answer.Byte b) = b ∷ []
-answerValues (Answer.Flag f) = flagValue f ∷ []
-answerValues (Answer.Id id) = idValues id
-answerValues (Answer.UniqueId v) = v ∷ []
-answerValues (Answer.Unprotected before after) = before ∷ after ∷ []
-answerValues (Answer.Device d) = deviceValues d
-answerValues (Answer.Config c) = quadValues (c .quad) ++ ownValues (c .device)
-
 -- how a step has ended the call, if it has
 abbrev pub endingOf : Given → Ending
 endingOf (Given.Act action) = goes
 endingOf (Given.Ended answer) = endsWith 0 (answerValues answer)
 endingOf (Given.Failed error) = endsWith (errorNumber error) (errorValues error)
 endingOf (Given.Refused error) = endsWith (errorNumber error) (errorValues error)
+
+-- 0 where the call goes on
+abbrev pub numberIn : Ending → ℕ
+numberIn goes = 0
+numberIn (endsWith number values) = number
+
+abbrev pub endingNumber : Given → ℕ
+endingNumber given = numberIn (endingOf given)
