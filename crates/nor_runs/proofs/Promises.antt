@@ -3,7 +3,7 @@ use Prim.Native.Nat.{ℕ, _≤_}
 use native.Mathlib.Omega.{arith}
 use mathlib.Core.Bool.{true}
 use mathlib.Core.Logic.{⊎-elim}
-use mathlib.Core.Path.{_≡_, _∙_, subst}
+use mathlib.Core.Path.{_≡_, ap, _∙_, subst}
 use mathlib.Core.List.{List, [], _∷_}
 use lib.ListN.{length}
 use Rattle.qspi.specs.Bytes.{AllBytes}
@@ -23,9 +23,11 @@ use Rattle.spi_flash.proofs.Reach.{reached}
 use Rattle.spi_nor.specs.Config.{inBoundsOf}
 use Rattle.nor_runs.specs.Bound.{delayBound, actionBound}
 use Rattle.nor_runs.specs.Program.{Left, programOf}
+use Rattle.nor_phases.specs.Answer.{answerValues}
+use Rattle.nor_driver.specs.Answer.{Ending, endsWith}
 use Rattle.nor_runs.specs.ProgramBounds.{Begins, CanEnd, judgedSetup}
 use Rattle.nor_runs.specs.Run.{nor, takesOf}
-use Rattle.nor_runs.specs.Promises.{ComesTo, answeredThen, EndsWith, EndsWell, Demand3}
+use Rattle.nor_runs.specs.Promises.{ComesTo, endedAs, EndsAs, EndsWell, Demand3}
 use Rattle.nor_driver.specs.declared.state.Call.{Call}
 use Rattle.nor_phases.specs.declared.setup.Setup.{Setup}
 use Rattle.nor_driver.specs.declared.state.SpiNorFlash.{SpiNorFlash}
@@ -108,18 +110,21 @@ IsDone a (done b) = b ≡ a
 IsDone a (failed e) = ⊥
 
 module _ (k : Takes) (a : Left) where
-  abbrev after : Run.Moved (Config Place) Left → List (Event Call) → Type 0
-  after m es = answeredThen (m .given) a (EndsWith a (goesOn (machine decideNext Call) (m .flash) es))
+  abbrev e : Ending
+  e = endsWith 0 (answerValues (a .answer))
 
-  settled-ends : (es : List (Event Call)) → ((s : Place) (f : Frame) → IsDone a (trail decideNext k s f es .stop) → EndsWith a (goesOn (machine decideNext Call) (out k s f) es)) →
+  abbrev after : Run.Moved (Config Place) Left → List (Event Call) → Type 0
+  after m es = endedAs (m .given) e (EndsAs e (goesOn (machine decideNext Call) (m .flash) es))
+
+  settled-ends : (es : List (Event Call)) → ((s : Place) (f : Frame) → IsDone a (trail decideNext k s f es .stop) → EndsAs e (goesOn (machine decideNext Call) (out k s f) es)) →
       (d : Decision Place Left) (l : Lent) → IsDone a (decidedTrail d (λ t s. trail decideNext k s (firstOf t) es) .stop) → after (settle k d l) es
   unfolding IsDone firstOf
   settled-ends es ih (more t s) l h = ih s (firstOf t) h
-  settled-ends es ih (well b) l h = h
-  settled-ends es ih (bad e) l h = absurd h
+  settled-ends es ih (well b) l h = ap (λ x. endsWith 0 (answerValues (x .answer))) h
+  settled-ends es ih (bad x) l h = absurd h
 
-  ends-with : (s : Place) (f : Frame) (es : List (Event Call)) → IsDone a (trail decideNext k s f es .stop) → EndsWith a (goesOn (machine decideNext Call) (out k s f) es)
-  unfolding IsDone EndsWith goesOn trail
+  ends-with : (s : Place) (f : Frame) (es : List (Event Call)) → IsDone a (trail decideNext k s f es .stop) → EndsAs e (goesOn (machine decideNext Call) (out k s f) es)
+  unfolding IsDone EndsAs goesOn trail
   ends-with s f [] h = absurd h
   ends-with s f (call c l ∷ es) h = ends-with s f es h
   ends-with s f (reply r bytes l ∷ es) h =
@@ -128,7 +133,7 @@ module _ (k : Takes) (a : Left) where
       heard-view k f r bytes l
       (λ y. IsDone a (onward y .stop) → after (moved decideNext k s f y l (x .scratch) (x .buffer)) es)
       (λ i. ends-with s f es i)
-      (λ g e i. ends-with s g es i)
+      (λ g on i. ends-with s g es i)
       (λ o c i. settled-ends es (λ s′ g j. ends-with s′ g es j) (decideNext s o) (lentAs (x .scratch) (x .buffer) l) i)
       h
 
@@ -139,7 +144,7 @@ well-done a b past (done x) h = h .0
 well-done a b past (failed e) h = h
 
 comes-well : (flash : SpiNorFlash) (c : Call) (l : Lent) → AllBytes (l .given) → CanEnd c → Opens flash c l → EndsWell flash c l
-unfolding EndsWith
+unfolding EndsAs
 comes-well flash c l small can o =
     let s = flash .setup in
     let b = length (l .buffer) in
@@ -149,7 +154,7 @@ comes-well flash c l small can o =
     subst (Ends (l .given) delays (e .0) (e .1)) (same-judged s c .program b d ∙ o .program) (e .2) in
     let r = reached Call decideNext (takesOf c l) (l .given) Valid meaning simulates (o .first) (o .at) (Well (λ x xs. (x ≡ e .1) × (spent delays xs ≡ e .0))) (o .valid) (path .ends) in
     record {
-      left = e .1;
+      values = answerValues (e .1 .answer);
       replies = r .0;
       real = r .1;
       ends = λ ls n w.

@@ -14,7 +14,8 @@ use Rattle.spi_flash.specs.declared.error.FlashError.{FlashError}
 use Rattle.nor_runs.specs.Bound.{delayBound, actionBound}
 use Rattle.nor_runs.specs.Program.{Left}
 use Rattle.nor_runs.specs.ProgramBounds.{CanEnd}
-use Rattle.nor_runs.specs.Run.{nor, takesOf, takesBuffer}
+use Rattle.nor_runs.specs.Run.{endingAs, nor, takesOf, takesBuffer}
+use Rattle.nor_driver.specs.Answer.{Ending, endsWith}
 use Rattle.nor_runs.specs.SameAsRust.{flashAfter}
 use Rattle.nor_driver.specs.Step.{deliveredPart}
 use Rattle.nor_driver.specs.declared.state.Call.{Call}
@@ -47,24 +48,24 @@ pub record RefusalsKeep : Type 0 where
   pub replies : (flash : SpiNorFlash) (r : Reply) (bytes : List ℕ) (l : Lent) (e : FlashError) → nor .answer flash r bytes l .given ≡ refused e →
       (nor .answer flash r bytes l .flash ≡ flash) × (nor .answer flash r bytes l .left ≡ l)
 
--- the call has ended with that answer, leaving that driver
-abbrev pub answeredThen : Given Left → Left → Type 0 → Type 0
-answeredThen (act shown) a later = later
-answeredThen (ended b) a later = b ≡ a
-answeredThen (failed e) a later = ⊥
-answeredThen (refused e) a later = later
+-- the call has ended with that number and those values
+abbrev pub endedAs : Given Left → Ending → Type 0 → Type 0
+endedAs (act shown) e later = later
+endedAs (ended left) e later = endingAs (ended left) ≡ e
+endedAs (failed x) e later = endingAs (failed x) ≡ e
+endedAs (refused x) e later = later
 
-unfoldable pub EndsWith : Left → List (Entry Call Left) → Type 0
-EndsWith a [] = ⊥
-EndsWith a (x ∷ xs) = answeredThen (x .given) a (EndsWith a xs)
+unfoldable pub EndsAs : Ending → List (Entry Call Left) → Type 0
+EndsAs e [] = ⊥
+EndsAs e (x ∷ xs) = endedAs (x .given) e (EndsAs e xs)
 
--- replies on which the call ends well
+-- replies on which the call ends well: "0 is success"
 pub record EndsWell (flash : SpiNorFlash) (call : Call) (l : Lent) : Type 0 where
-  pub left : Left
+  pub values : List ℕ
   pub replies : List Answer
   pub real : RealReplies replies
   pub ends : (ls : List Lent) → length ls ≡ length replies → Lending (takesOf call l) (l .given) ls →
-      EndsWith left (runOf nor flash call l (answering replies ls))
+      EndsAs (endsWith 0 values) (runOf nor flash call l (answering replies ls))
 
 pub record Demand3 : Type 0 where
   -- "the delay summed over the actions given out is at most the call's bill in the documents"

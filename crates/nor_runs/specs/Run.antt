@@ -8,7 +8,10 @@ use Rattle.spi_flash.specs.Loan.{Lent}
 use Rattle.spi_flash.specs.Machine.{lentAs}
 use Rattle.spi_flash.specs.Run as Run
 use Rattle.spi_flash.specs.Run.{System}
+use Rattle.spi_flash.specs.Error.{errorNumber, errorValues}
 use Rattle.spi_flash.specs.declared.loan.Takes.{Takes}
+use Rattle.nor_phases.specs.Answer.{answerValues}
+use Rattle.nor_driver.specs.Answer.{Ending, goes, endsWith}
 use Rattle.nor_driver.specs.Step.{Moved, stepOf}
 use Rattle.nor_driver.specs.Call.{beginOf}
 use Rattle.nor_runs.specs.Program.{Left, leaving}
@@ -24,6 +27,13 @@ givenAs (Given.Act action) flash scratch lent = Run.act (shownOf action scratch 
 givenAs (Given.Ended answer) flash scratch lent = Run.ended (leaving (flash .setup) answer)
 givenAs (Given.Failed error) flash scratch lent = Run.failed error
 givenAs (Given.Refused error) flash scratch lent = Run.refused error
+
+-- document 01's number and values of what a step gives
+abbrev pub endingAs : Run.Given Left → Ending
+endingAs (Run.act shown) = goes
+endingAs (Run.ended left) = endsWith 0 (answerValues (left .answer))
+endingAs (Run.failed error) = endsWith (errorNumber error) (errorValues error)
+endingAs (Run.refused error) = endsWith (errorNumber error) (errorValues error)
 
 -- a beginning changes nothing that is lent
 abbrev pub begunAs : Stepped → Lent → Run.Moved SpiNorFlash Left
