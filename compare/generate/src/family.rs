@@ -42,7 +42,8 @@ pub fn requests(rng: &mut Rng) -> Vec<Item> {
 /// A part at the bounds or outside, and what a construction makes of it.
 pub fn bounds(rng: &mut Rng) -> Vec<Item> {
     let mut sequence = Sequence::new();
-    if rng.percent(30) {
+    // A construction that is refused leaves the driver before it.
+    if rng.percent(60) {
         sequence.fitting(plain("new_single", &[]), request::id(rng), rng);
     }
     if rng.percent(30) {
