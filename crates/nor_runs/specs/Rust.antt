@@ -1,6 +1,7 @@
--- nor/driver.rs, transcribed: a definition for each of its functions, in its order and under its names.
+-- nor/driver.rs, transcribed: a definition for each of its functions, under its names and in its order, but that one which uses
+-- others stands behind them (with_config is last). config, device, id and free are in `Program.antt`.
 -- `transfer` is one select frame of the Rust (`command`, `command_then_read`, or a quad call between cs_low and cs_high) or one
--- delay; a bus error in it ends the call, as `?` does.
+-- delay; a bus error in it ends the call, as `?` does. Their bus calls are in `OnBus.antt` of spi_flash.
 use Prim.Native.Nat.{ℕ, zero, suc, _+_, _-_}
 use mathlib.Core.Bool.{Bool, true, not}
 use lib.Dec.{ltb, eqb}
