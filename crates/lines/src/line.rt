@@ -28,7 +28,7 @@ const END: u8 = 69;
 const COLON: u8 = 58;
 
 // A blank and a number.
-fn field(out: &mut [u8], at: usize, n: u64) -> usize
+pub fn field(out: &mut [u8], at: usize, n: u64) -> usize
     ensures { λ r. ⌜ textOf (now (out .exit)) r ≡ appended (fieldOf n) (textOf (now (out .entry)) at) ⌝ }
 {
     let digits = text::put(out, at, text::BLANK);

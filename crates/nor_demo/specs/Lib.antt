@@ -1,3 +1,2 @@
-pub mod Print
 pub mod Script
 pub mod Perform
