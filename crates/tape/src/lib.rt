@@ -1,0 +1,2 @@
+// The reply tape: a test bench makes it, and a replay reads it.
+pub mod record;
