@@ -1,2 +1,3 @@
 // The reply tape: a test bench makes it, and a replay reads it.
+pub mod judge;
 pub mod record;

@@ -127,6 +127,14 @@ pub fn taken_at(tape: &[u8], at: usize) -> Taken
     shaped(s, at, s[0], len)
 }
 
+// The position behind the record at a position.
+pub fn behind(tape: &[u8], at: usize) -> usize
+    ensures { λ r. ⌜ r ≡ takenAt (now (tape .entry)) at .next ⌝ }
+{
+    let t = taken_at(tape, at);
+    t.next
+}
+
 // The number of an answer: a record's kind.
 pub fn kind(answer: Record) -> u8
     ensures { λ r. ⌜ r ≡ numberOfRecord answer ⌝ }
