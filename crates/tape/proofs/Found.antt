@@ -1,6 +1,6 @@
 -- What a position of a tape can have: nothing, or one of the three kinds of record, whole before the trailer.
-use Prim.Native.Nat.{ℕ, _+_, _-_, _≤_, _<_}
-use mathlib.Core.Path.{_≡_, refl, ap, sym}
+use Prim.Native.Nat.{ℕ, _+_, _-_, _≤_}
+use mathlib.Core.Path.{_≡_, refl}
 use mathlib.Core.Bool.{Bool, true, false}
 use mathlib.Core.List.{List}
 use native.Mathlib.Omega.{arith}
@@ -8,14 +8,14 @@ use lib.ListN.{length, getD}
 use lib.Dec.{ltb, eqb}
 use borrow.Author.Tests.{ltb-false, eqb-true}
 use Rattle.tape.specs.Format.{doneKind, dataKind, errorKind, doneLength, errorLength, headerLength}
-use Rattle.tape.specs.Record.{trailerAt, aheadOf, lengthIn, taken, shapedOf, takenIn, takenAt}
+use Rattle.tape.specs.Record.{lengthIn, taken, shapedOf, takenIn}
 use Rattle.tape.specs.declared.record.Record.{Record}
 use Rattle.tape.specs.declared.record.Taken.{Taken}
-use Rattle.tape.proofs.Parts.{room}
 
 pub data Found (s : List ℕ) (at : ℕ) : Taken → Type 0 where
   nothing : Found s at (taken Record.Spent at)
-  isDone : getD s 0 0 ≡ doneKind → lengthIn s ≡ doneLength → headerLength ≤ length s → Found s at (taken Record.Done (at + headerLength))
+  isDone : getD s 0 0 ≡ doneKind → lengthIn s ≡ doneLength → headerLength + lengthIn s ≤ length s
+      → Found s at (taken Record.Done (at + headerLength + lengthIn s))
   isData : getD s 0 0 ≡ dataKind → headerLength + lengthIn s ≤ length s
       → Found s at (taken (Record.Data (at + headerLength) (lengthIn s)) (at + headerLength + lengthIn s))
   isError : getD s 0 0 ≡ errorKind → lengthIn s ≡ errorLength → headerLength + lengthIn s ≤ length s
@@ -30,7 +30,7 @@ unfolding shapedOf
 shaped s at fits =
     by-cases (eqb (getD s 0 0) doneKind)
     (λ e. rw e (by-cases (eqb (lengthIn s) doneLength)
-    (λ z. rw z (isDone (eqb-true _ _ e) (eqb-true _ _ z) (omega arith)))
+    (λ z. rw z (isDone (eqb-true _ _ e) (eqb-true _ _ z) fits))
     (λ z. rw z nothing)))
     (λ e. rw e (by-cases (eqb (getD s 0 0) dataKind)
     (λ d. rw d (isData (eqb-true _ _ d) fits))

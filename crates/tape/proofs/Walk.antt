@@ -42,3 +42,23 @@ module _ (tape : List ℕ) where
 
   pub next-within : (at : ℕ) → at < takenAt tape at .next → takenAt tape at .next ≤ trailerAt tape
   next-within at h = by-step at (λ e. absurd (omega (arith, ap (λ (x : Taken). x .next) e))) (λ on within. within)
+
+  forward : (n at : ℕ) → at ≤ walked n tape at
+  forward zero at = omega arith
+  forward (suc n) at =
+      let later = forward n (takenAt tape at .next) in
+      by-step at (λ e. omega (arith, stay (suc n) at e)) (λ on within. omega arith)
+
+  pub onwards : (at : ℕ) → at ≤ endFrom tape at
+  unfolding endFrom
+  onwards at = forward (length tape) at
+
+  -- an answer that is no record leaves the position as it is
+  pub spent-stays : (at : ℕ) → takenAt tape at .given ≡ Record.Spent → takenAt tape at .next ≡ at
+  spent-stays at h = go (takenAt tape at) h (found (aheadOf tape at) at)
+    where
+      go : (t : Taken) → t .given ≡ Record.Spent → Found (aheadOf tape at) at t → t .next ≡ at
+      go t e nothing = refl
+      go t e (isDone k z fits) = cc
+      go t e (isData k fits) = cc
+      go t e (isError k z fits) = cc

@@ -1,3 +1,5 @@
 pub mod Format
 pub mod Record
 pub mod Judge
+pub mod Records
+pub mod Statements

@@ -28,7 +28,7 @@ taken given next = record { given = given; next = next }
 -- the record of a kind and a length that begins s, which stands at a position; none of another kind, and none of a wrong length for its kind
 unfoldable pub shapedOf : List ℕ → ℕ → ℕ → ℕ → Taken
 shapedOf s at kind len =
-    pick (eqb kind doneKind) (pick (eqb len doneLength) (taken Record.Done (at + headerLength)) (taken Record.Spent at))
+    pick (eqb kind doneKind) (pick (eqb len doneLength) (taken Record.Done (at + headerLength + len)) (taken Record.Spent at))
     (pick (eqb kind dataKind) (taken (Record.Data (at + headerLength) len) (at + headerLength + len))
     (pick (eqb kind errorKind) (pick (eqb len errorLength) (taken (Record.BusError (getD s headerLength 0)) (at + headerLength + len)) (taken Record.Spent at))
     (taken Record.Spent at)))

@@ -84,11 +84,12 @@ fn shaped(s: &[u8], at: usize, kind: u8, len: usize) -> Taken
     ensures { λ r. ⌜ r ≡ shapedOf (now (s .entry)) at kind len ⌝ }
 {
     let from = at + HEADER_LEN;
+    let next = from + len;
     if kind == DONE {
         if len == DONE_LEN {
             return Taken {
                 given: Record::Done,
-                next: from,
+                next,
             };
         }
         return spent(at);
@@ -96,14 +97,14 @@ fn shaped(s: &[u8], at: usize, kind: u8, len: usize) -> Taken
     if kind == DATA {
         return Taken {
             given: Record::Data { from, len },
-            next: from + len,
+            next,
         };
     }
     if kind == BUS_ERROR {
         if len == BUS_ERROR_LEN {
             return Taken {
                 given: Record::BusError(s[HEADER_LEN]),
-                next: from + len,
+                next,
             };
         }
         return spent(at);

@@ -1,8 +1,6 @@
-use Prim.Native.Nat.{_-_}
-use mathlib.Core.Path.{_∙_, sym}
+use mathlib.Core.Path.{sym}
 use native.Mathlib.Omega.{arith}
 use denote.Ref.{now}
-use lib.ListN.{length}
 use borrow.Author.Needs.{needs}
 use Rattle.tape.specs.Record.{trailerAt, aheadOf}
 use Rattle.tape.proofs.Parts.{part-slice, none-ahead}

@@ -7,6 +7,9 @@ use Rattle.tape.proofs.record.shaped.Tie as tie
 add-from : tie.Need-add-from
 add-from c = search needs
 
+add-next : tie.Need-add-next
+add-next c = search needs
+
 returns : tie.Need-returns
 unfolding shapedOf
 returns c =
@@ -22,9 +25,6 @@ returns-2 c =
     let h0 = c .before .if2 .left in
     let h1 = c .before .before .if1 .taken in simp (← c .spent .ensures, tests)
 
-add-t10 : tie.Need-add-t10
-add-t10 c = search needs
-
 returns-3 : tie.Need-returns-3
 unfolding shapedOf
 returns-3 c =
@@ -33,9 +33,6 @@ returns-3 c =
 
 shared-slice-read-t13 : tie.Need-shared-slice-read-t13
 shared-slice-read-t13 c = search needs
-
-add-t15 : tie.Need-add-t15
-add-t15 c = search needs
 
 returns-4 : tie.Need-returns-4
 unfolding shapedOf
@@ -71,13 +68,12 @@ shaped-spec =
     tie.close
     (tie.spec
     add-from
+    add-next
     returns
     spent-requires
     returns-2
-    add-t10
     returns-3
     shared-slice-read-t13
-    add-t15
     returns-4
     spent-requires-2
     returns-5

@@ -1,0 +1,31 @@
+-- What is proved of the definitions that the contracts cite.
+use Prim.Native.Nat.{ℕ, _+_}
+use mathlib.Core.Path.{_≡_}
+use mathlib.Core.Bool.{true}
+use mathlib.Core.List.{List}
+use lib.ListN.{length}
+use Rattle.qspi.specs.Bytes.{AllBytes}
+use Rattle.tape.specs.Format.{trailerLength, WellFormed}
+use Rattle.tape.specs.Record.{takenAt}
+use Rattle.tape.specs.Judge.{acceptedOf, firstOf}
+use Rattle.tape.specs.Records.{listed, recordsFrom}
+use Rattle.tape.specs.declared.record.Record.{Record}
+
+-- a tape of bytes is accepted just where it is well formed
+pub record TapeJudged : Type 0 where
+  pub sound : (tape : List ℕ) → AllBytes tape → acceptedOf tape ≡ true → WellFormed tape
+  pub complete : (tape : List ℕ) → WellFormed tape → acceptedOf tape ≡ true
+
+-- the positions of a reader that started at the first record
+pub data Reached (tape : List ℕ) : ℕ → Type 0 where
+  start : Reached tape (firstOf tape)
+  next : {at : ℕ} → Reached tape at → Reached tape (takenAt tape at .next)
+
+pub record ReaderWalks : Type 0 where
+  -- at every position of every tape: what the reader gives is the list's head, and the list behind it is its tail
+  pub steps : (tape : List ℕ) (at : ℕ) → recordsFrom tape at ≡ listed tape (takenAt tape at .given) (recordsFrom tape (takenAt tape at .next))
+  -- a reader of a well-formed tape gives exactly the records that the tape was made of
+  pub all : (tape : List ℕ) (made : WellFormed tape) → recordsFrom tape (firstOf tape) ≡ made .records
+  -- and where it gives no more it stands at the trailer
+  pub spent : (tape : List ℕ) → acceptedOf tape ≡ true → (at : ℕ) → Reached tape at → takenAt tape at .given ≡ Record.Spent
+      → at + trailerLength ≡ length tape
