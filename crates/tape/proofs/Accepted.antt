@@ -10,7 +10,7 @@ use lib.Dec.{ltb, eqb}
 use borrow.Author.Tests.{le-leb, le-ltb, eq-eqb, ltb-false, eqb-true}
 use Rattle.qspi.specs.Choice.{pick}
 use Rattle.qspi.specs.Bytes.{partOf}
-use Rattle.tape.specs.Format.{trailerLength, longestTape}
+use Rattle.tape.specs.Tape.{trailerLength, longestTape}
 use Rattle.tape.specs.Record.{trailerAt}
 use Rattle.tape.specs.Judge.{endFrom, pointerOf, acceptedOf}
 

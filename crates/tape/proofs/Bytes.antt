@@ -7,7 +7,7 @@ use lib.ListN.{length, getD, take, drop}
 use Rattle.qspi.specs.Address.{bigEndian}
 use Rattle.qspi.specs.Bytes.{AllBytes, numberOf}
 use Rattle.qspi.proofs.Numbers.{numbers}
-use Rattle.tape.specs.Format.{lengthWidth, headerLength}
+use Rattle.tape.specs.Tape.{lengthWidth, headerLength}
 use Rattle.tape.specs.Record.{lengthIn}
 
 digits : (n x y z : ℕ) → n ≡ x * 65536 + y * 256 + z → x < 256 → y < 256 → z < 256 → bigEndian 3 n ≡ x ∷ y ∷ z ∷ []

@@ -9,7 +9,7 @@ use borrow.Author.Tests.{le-ltb}
 use Rattle.qspi.specs.Address.{bigEndian}
 use Rattle.qspi.specs.Bytes.{partOf, numberOf}
 use Rattle.qspi.proofs.Numbers.{numbers}
-use Rattle.tape.specs.Format.{headerLength, trailerLength, longestTape, TapeRecord, kindOf, bodyOf, encoded, allEncoded, WellFormed}
+use Rattle.tape.specs.Tape.{headerLength, trailerLength, longestTape, TapeRecord, kindOf, bodyOf, encoded, allEncoded, WellFormed}
 use Rattle.tape.specs.Record.{trailerAt, aheadOf, lengthIn, taken, shapedOf, takenIn, takenAt}
 use Rattle.tape.specs.Judge.{endFrom, pointerOf}
 use Rattle.tape.specs.Records.{listed, recordsFrom}

@@ -7,7 +7,7 @@ use native.Mathlib.Omega.{arith}
 use lib.ListN.{length, getD}
 use lib.Dec.{ltb, eqb}
 use borrow.Author.Tests.{ltb-false, eqb-true}
-use Rattle.tape.specs.Format.{doneKind, dataKind, errorKind, doneLength, errorLength, headerLength}
+use Rattle.tape.specs.Tape.{doneKind, dataKind, errorKind, doneLength, errorLength, headerLength}
 use Rattle.tape.specs.Record.{lengthIn, taken, shapedOf, takenIn}
 use Rattle.tape.specs.declared.record.Record.{Record}
 use Rattle.tape.specs.declared.record.Taken.{Taken}

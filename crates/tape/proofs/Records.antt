@@ -4,7 +4,7 @@ use mathlib.Core.Path.{_≡_, ap, sym}
 use mathlib.Core.List.{List}
 use native.Mathlib.Omega.{arith}
 use lib.ListN.{length}
-use Rattle.tape.specs.Format.{TapeRecord}
+use Rattle.tape.specs.Tape.{TapeRecord}
 use Rattle.tape.specs.Record.{trailerAt, takenAt}
 use Rattle.tape.specs.Records.{listed, recordsBy, recordsFrom}
 use Rattle.tape.proofs.Walk.{by-step}

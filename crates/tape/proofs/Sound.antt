@@ -7,7 +7,7 @@ use lib.ListN.{length, getD, take, drop, take-append-drop, length-drop}
 use lib.Seq.{take-take, drop-cons, length-take-le}
 use Rattle.qspi.specs.Bytes.{AllBytes, partOf, numberOf}
 use Rattle.qspi.specs.Address.{bigEndian}
-use Rattle.tape.specs.Format.{lengthWidth, headerLength, trailerLength, TapeRecord, bodyOf, kindOf, encoded, allEncoded, WellFormed}
+use Rattle.tape.specs.Tape.{lengthWidth, headerLength, trailerLength, TapeRecord, bodyOf, kindOf, encoded, allEncoded, WellFormed}
 use Rattle.tape.specs.Record.{trailerAt, aheadOf, lengthIn, takenAt}
 use Rattle.tape.specs.Judge.{walked, endFrom, pointerOf}
 use Rattle.tape.specs.Records.{recordsBy, recordsFrom}

@@ -4,6 +4,7 @@ use mathlib.Core.Path.{_≡_, ap, _∙_}
 use mathlib.Core.Bool.{true}
 use mathlib.Core.List.{List}
 use native.Mathlib.Omega.{arith}
+use denote.Ref.{now}
 use Rattle.tape.specs.Record.{trailerAt}
 use Rattle.tape.specs.Judge.{endFrom, pointerOf, acceptedOf, firstOf}
 use Rattle.tape.specs.Records.{recordsFrom}
@@ -32,6 +33,7 @@ reached tape e (next {at = at} r) = end-step tape at ∙ reached tape e r
 pub reader-walks : ReaderWalks
 reader-walks = record {
   steps = steps;
+  reads = λ reader. steps (now (reader .tape)) (reader .at);
   all = λ tape made.
       ap (recordsFrom tape) (first-is tape (accepts tape (is-accepted tape made)) ∙ pointer-made tape made)
       ∙ lists tape (made .most) (made .records) _ (ahead-made tape made);

@@ -6,7 +6,7 @@ use lib.ListN.{length}
 use lib.Dec.{ltb, eqb}
 use Rattle.qspi.specs.Choice.{pick}
 use Rattle.qspi.specs.Bytes.{partOf, numberOf}
-use Rattle.tape.specs.Format.{trailerLength, longestTape}
+use Rattle.tape.specs.Tape.{trailerLength, longestTape}
 use Rattle.tape.specs.Record.{trailerAt, takenAt}
 
 -- where so many records behind a position lead; a walk stays where no record stands

@@ -6,7 +6,7 @@ use lib.Seq.{slice}
 use lib.Dec.{ltb, eqb}
 use Rattle.qspi.specs.Choice.{pick}
 use Rattle.qspi.specs.Bytes.{partOf, numberOf}
-use Rattle.tape.specs.Format.{doneKind, dataKind, errorKind, doneLength, errorLength, lengthWidth, headerLength, trailerLength}
+use Rattle.tape.specs.Tape.{doneKind, dataKind, errorKind, doneLength, errorLength, lengthWidth, headerLength, trailerLength}
 use Rattle.tape.specs.declared.record.Record.{Record}
 use Rattle.tape.specs.declared.record.Taken.{Taken}
 

@@ -2,7 +2,7 @@
 use Prim.Native.Nat.{ℕ, zero, suc}
 use mathlib.Core.List.{List, [], _∷_}
 use lib.ListN.{length}
-use Rattle.tape.specs.Format.{TapeRecord}
+use Rattle.tape.specs.Tape.{TapeRecord}
 use Rattle.tape.specs.Record.{takenAt, dataOf}
 use Rattle.tape.specs.declared.record.Record.{Record}
 

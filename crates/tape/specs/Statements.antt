@@ -4,12 +4,15 @@ use mathlib.Core.Path.{_≡_}
 use mathlib.Core.Bool.{true}
 use mathlib.Core.List.{List}
 use lib.ListN.{length}
+use denote.Ref.{now}
 use Rattle.qspi.specs.Bytes.{AllBytes}
-use Rattle.tape.specs.Format.{trailerLength, WellFormed}
+use Rattle.tape.specs.Tape.{trailerLength, TapeRecord, WellFormed}
 use Rattle.tape.specs.Record.{takenAt}
 use Rattle.tape.specs.Judge.{acceptedOf, firstOf}
 use Rattle.tape.specs.Records.{listed, recordsFrom}
+use Rattle.tape.specs.Reader.{nextOf}
 use Rattle.tape.specs.declared.record.Record.{Record}
+use Rattle.tape.specs.declared.reader.Reader.{Reader}
 
 -- a tape of bytes is accepted just where it is well formed
 pub record TapeJudged : Type 0 where
@@ -21,9 +24,15 @@ pub data Reached (tape : List ℕ) : ℕ → Type 0 where
   start : Reached tape (firstOf tape)
   next : {at : ℕ} → Reached tape at → Reached tape (takenAt tape at .next)
 
+-- the records that a reader has before it
+abbrev pub recordsAhead : Reader → List TapeRecord
+recordsAhead reader = recordsFrom (now (reader .tape)) (reader .at)
+
 pub record ReaderWalks : Type 0 where
-  -- at every position of every tape: what the reader gives is the list's head, and the list behind it is its tail
+  -- on every tape and at every position the record there is the list's head, and the list from the position behind it is its tail
   pub steps : (tape : List ℕ) (at : ℕ) → recordsFrom tape at ≡ listed tape (takenAt tape at .given) (recordsFrom tape (takenAt tape at .next))
+  -- so every reader gives the head and is left before the tail
+  pub reads : (reader : Reader) → recordsAhead reader ≡ listed (now (reader .tape)) (nextOf reader .given) (recordsAhead (nextOf reader .reader))
   -- a reader of a well-formed tape gives exactly the records that the tape was made of
   pub all : (tape : List ℕ) (made : WellFormed tape) → recordsFrom tape (firstOf tape) ≡ made .records
   -- and where it gives no more it stands at the trailer
