@@ -1,19 +1,23 @@
 -- The statements about tapes and their readers.
 use Prim.Native.Nat.{ℕ}
-use mathlib.Core.Path.{_≡_, ap, _∙_}
+use mathlib.Core.Path.{_≡_, refl, ap, _∙_}
 use mathlib.Core.Bool.{true}
 use mathlib.Core.List.{List}
 use native.Mathlib.Omega.{arith}
 use denote.Ref.{now}
-use Rattle.tape.specs.Record.{trailerAt}
+use Rattle.tape.specs.Record.{trailerAt, aheadOf, shapedOf, takenIn}
 use Rattle.tape.specs.Judge.{endFrom, pointerOf, acceptedOf, firstOf}
 use Rattle.tape.specs.Records.{recordsFrom}
-use Rattle.tape.specs.Statements.{TapeJudged, Reached, start, next, ReaderWalks}
+use Rattle.tape.specs.Statements.{Example, TapeJudged, Reached, start, next, ReaderWalks}
 use Rattle.tape.proofs.Walk.{end-step, end-here, spent-stays}
 use Rattle.tape.proofs.Records.{steps}
 use Rattle.tape.proofs.Accepted.{accepted, accepts}
 use Rattle.tape.proofs.Sound.{well-formed}
 use Rattle.tape.proofs.Complete.{lists, ahead-made, pointer-made, is-accepted}
+
+pub example : Example
+unfolding aheadOf shapedOf takenIn endFrom acceptedOf firstOf recordsFrom
+example = record { accepted = refl; records = refl }
 
 pub tape-judged : TapeJudged
 tape-judged = record {

@@ -9,12 +9,12 @@ use Rattle.qspi.specs.Bytes.{partOf, numberOf}
 use Rattle.tape.specs.Tape.{trailerLength, longestTape}
 use Rattle.tape.specs.Record.{trailerAt, takenAt}
 
--- where so many records behind a position lead; a walk stays where no record stands
+-- where a walk over so many records leads; it stays where no record stands
 abbrev pub walked : ℕ → List ℕ → ℕ → ℕ
 walked zero tape at = at
 walked (suc n) tape at = walked n tape (takenAt tape at .next)
 
--- where the records from a position on end: a record is longer than nothing, so there are fewer of them than bytes
+-- where the records from a position on end: there are no more of them than bytes
 unfoldable pub endFrom : List ℕ → ℕ → ℕ
 endFrom tape at = walked (length tape) tape at
 

@@ -6,11 +6,11 @@ use lib.Seq.{slice}
 use lib.Dec.{ltb, eqb}
 use Rattle.qspi.specs.Choice.{pick}
 use Rattle.qspi.specs.Bytes.{partOf, numberOf}
-use Rattle.tape.specs.Tape.{doneKind, dataKind, errorKind, doneLength, errorLength, lengthWidth, headerLength, trailerLength}
+use Rattle.tape.specs.Tape.{doneKind, dataKind, errorKind, doneLength, errorLength, kindWidth, lengthWidth, headerLength, trailerLength}
 use Rattle.tape.specs.declared.record.Record.{Record}
 use Rattle.tape.specs.declared.record.Taken.{Taken}
 
--- the trailer's position: the last three bytes
+-- where the trailer starts
 abbrev pub trailerAt : List ℕ → ℕ
 trailerAt tape = length tape - trailerLength
 
@@ -20,8 +20,9 @@ aheadOf tape at = slice at (trailerAt tape) tape
 
 -- the length in the header of the record that begins s
 abbrev pub lengthIn : List ℕ → ℕ
-lengthIn s = numberOf (take lengthWidth (drop 1 s))
+lengthIn s = numberOf (take lengthWidth (drop kindWidth s))
 
+-- an answer, and the position that it leaves
 abbrev pub taken : Record → ℕ → Taken
 taken given next = record { given = given; next = next }
 
@@ -43,12 +44,16 @@ takenIn s at =
 abbrev pub takenAt : List ℕ → ℕ → Taken
 takenAt tape at = takenIn (aheadOf tape at) at
 
--- the number of each answer: a record's kind, or 16, the refusal for a tape that has no record left
+-- 16: a bus action awaits a reply, and no record is left
+abbrev pub spentNumber : ℕ
+spentNumber = 16
+
+-- the number of each answer: a record's kind, or that of the refusal
 abbrev pub numberOfRecord : Record → ℕ
 numberOfRecord Record.Done = doneKind
 numberOfRecord (Record.Data from len) = dataKind
 numberOfRecord (Record.BusError code) = errorKind
-numberOfRecord Record.Spent = 16
+numberOfRecord Record.Spent = spentNumber
 
 -- the length in a record's header
 abbrev pub lengthOf : Record → ℕ

@@ -18,6 +18,6 @@ abbrev pub recordsBy : ℕ → List ℕ → ℕ → List TapeRecord
 recordsBy zero tape at = []
 recordsBy (suc n) tape at = listed tape (takenAt tape at .given) (recordsBy n tape (takenAt tape at .next))
 
--- the records from a position on: there are fewer of them than bytes
+-- the records from a position on: there are no more of them than bytes
 unfoldable pub recordsFrom : List ℕ → ℕ → List TapeRecord
 recordsFrom tape at = recordsBy (length tape) tape at

@@ -2,7 +2,7 @@
 use Prim.Native.Nat.{ℕ, _+_}
 use mathlib.Core.Path.{_≡_}
 use mathlib.Core.Bool.{true}
-use mathlib.Core.List.{List}
+use mathlib.Core.List.{List, [], _∷_}
 use lib.ListN.{length}
 use denote.Ref.{now}
 use Rattle.qspi.specs.Bytes.{AllBytes}
@@ -18,6 +18,14 @@ use Rattle.tape.specs.declared.reader.Reader.{Reader}
 pub record TapeJudged : Type 0 where
   pub sound : (tape : List ℕ) → AllBytes tape → acceptedOf tape ≡ true → WellFormed tape
   pub complete : (tape : List ℕ) → WellFormed tape → acceptedOf tape ≡ true
+
+-- the tape `00 00 00 00 01 00 00 03 EF 40 17 00 00 00`: done, then three bytes
+abbrev pub exampleTape : List ℕ
+exampleTape = 0 ∷ 0 ∷ 0 ∷ 0 ∷ 1 ∷ 0 ∷ 0 ∷ 3 ∷ 0xEF ∷ 0x40 ∷ 0x17 ∷ 0 ∷ 0 ∷ 0 ∷ []
+
+pub record Example : Type 0 where
+  pub accepted : acceptedOf exampleTape ≡ true
+  pub records : recordsFrom exampleTape (firstOf exampleTape) ≡ TapeRecord.done ∷ TapeRecord.bytes (0xEF ∷ 0x40 ∷ 0x17 ∷ []) ∷ []
 
 -- the positions of a reader that started at the first record
 pub data Reached (tape : List ℕ) : ℕ → Type 0 where

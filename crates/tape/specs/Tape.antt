@@ -22,7 +22,10 @@ doneLength = 0
 abbrev pub errorLength : ℕ
 errorLength = 1
 
--- a length takes three bytes, so a record's header four; the trailer is one position of three bytes
+-- a header is one byte of kind and three of length; the trailer is a position in three bytes
+abbrev pub kindWidth : ℕ
+kindWidth = 1
+
 abbrev pub lengthWidth : ℕ
 lengthWidth = 3
 
@@ -32,26 +35,29 @@ headerLength = 4
 abbrev pub trailerLength : ℕ
 trailerLength = 3
 
+-- a longer tape is refused: it is the largest number of three bytes
 abbrev pub longestTape : ℕ
 longestTape = 16777215
 
--- a record: done, the bytes of data, or the code of a bus error
+-- what a record is: a reply of done, of data with its bytes, or of a bus error with its code
 pub data TapeRecord : Type 0 where
   done : TapeRecord
   bytes : List ℕ → TapeRecord
   busError : ℕ → TapeRecord
 
+-- the kind of a record
 abbrev pub kindOf : TapeRecord → ℕ
 kindOf TapeRecord.done = doneKind
 kindOf (TapeRecord.bytes body) = dataKind
 kindOf (TapeRecord.busError code) = errorKind
 
+-- the bytes behind its header
 abbrev pub bodyOf : TapeRecord → List ℕ
 bodyOf TapeRecord.done = []
 bodyOf (TapeRecord.bytes body) = body
 bodyOf (TapeRecord.busError code) = code ∷ []
 
--- a record on the tape: its kind, the length of what it brings, highest byte first, and then that
+-- a record on the tape: its kind, how many bytes follow, highest byte first, and then these
 abbrev pub encoded : TapeRecord → List ℕ
 encoded r = kindOf r ∷ bigEndian lengthWidth (length (bodyOf r)) ++ bodyOf r
 
@@ -60,8 +66,8 @@ abbrev pub allEncoded : List TapeRecord → List ℕ
 allEncoded [] = []
 allEncoded (r ∷ rs) = encoded r ++ allEncoded rs
 
--- a well-formed tape: bytes that nobody reads, records up to the trailer, and a trailer that is the first record's position, highest byte first.
--- The trailer alone makes it three bytes long; no records at all are well formed.
+-- a well-formed tape: bytes that nobody reads, then records and nothing else up to the trailer, which is the first record's position, highest byte first.
+-- The trailer makes it three bytes long or longer, and it may have no record at all.
 pub record WellFormed (tape : List ℕ) : Type 0 where
   pub ignored : List ℕ
   pub records : List TapeRecord

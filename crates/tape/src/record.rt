@@ -4,6 +4,7 @@ use qspi::bytes;
 ghost use mathlib.Core.Path.{_≡_};
 ghost use Prim.Native.Nat.{_+_, _≤_, _<_, _^_};
 ghost use lib.ListN.{length};
+ghost use Rattle.tape.specs.Tape.{headerLength};
 ghost use Rattle.tape.specs.Record.{trailerAt, aheadOf, lengthIn, taken, shapedOf, takenAt, numberOfRecord, lengthOf, dataOf};
 
 // The kinds of records.
@@ -13,18 +14,20 @@ pub const DATA: u8 = 1;
 
 pub const BUS_ERROR: u8 = 2;
 
-// The number of an answer that is no record: a bus action is refused with it.
-pub const NO_RECORD: u8 = 16;
+// The refusal of a bus action that finds no record.
+pub const SPENT: u8 = 16;
 
 // The only lengths of the kinds other than data.
 pub const DONE_LEN: usize = 0;
 
 pub const BUS_ERROR_LEN: usize = 1;
 
-// A record's kind, and its length in three bytes.
+// A header is a record's kind, and its length in three bytes.
+pub const KIND_LEN: usize = 1;
+
 pub const HEADER_LEN: usize = 4;
 
-// The first record's position, in three bytes.
+// The trailer is the first record's position, in three bytes.
 pub const TRAILER_LEN: usize = 3;
 
 pub enum Record {
@@ -42,6 +45,7 @@ pub struct Taken {
     pub next: usize,
 }
 
+// Where the trailer starts.
 pub fn trailer_at(tape: &[u8]) -> usize
     ensures { λ r. ⌜ r ≡ trailerAt (now (tape .entry)) ⌝ }
 {
@@ -63,12 +67,13 @@ pub fn ahead(tape: &[u8], at: usize) -> &[u8]
 
 // The length in a header, highest byte first.
 fn length_in(s: &[u8]) -> usize
-    requires { ⌜ 4 ≤ length (now s) ⌝ }
+    requires { ⌜ headerLength ≤ length (now s) ⌝ }
     ensures { λ r. ⌜ r ≡ lengthIn (now (s .entry)) ⌝ }
 {
-    bytes::number(&s[1..HEADER_LEN]) as usize
+    bytes::number(&s[KIND_LEN..HEADER_LEN]) as usize
 }
 
+// No record stands at a position, and the reader stays there.
 fn spent(at: usize) -> Taken
     ensures { λ r. ⌜ r ≡ taken Record.Spent at ⌝ }
 {
@@ -80,7 +85,7 @@ fn spent(at: usize) -> Taken
 
 // The record of a kind and a length that begins s, which stands at a position.
 fn shaped(s: &[u8], at: usize, kind: u8, len: usize) -> Taken
-    requires { ⌜ (4 + len ≤ length (now s)) × (at + length (now s) < 2 ^ 64) ⌝ }
+    requires { ⌜ (headerLength + len ≤ length (now s)) × (at + length (now s) < 2 ^ 64) ⌝ }
     ensures { λ r. ⌜ r ≡ shapedOf (now (s .entry)) at kind len ⌝ }
 {
     let from = at + HEADER_LEN;
@@ -136,7 +141,7 @@ pub fn behind(tape: &[u8], at: usize) -> usize
     t.next
 }
 
-// The number of an answer: a record's kind.
+// The number of an answer: a record's kind, or the refusal's.
 pub fn kind(answer: Record) -> u8
     ensures { λ r. ⌜ r ≡ numberOfRecord answer ⌝ }
 {
@@ -144,10 +149,11 @@ pub fn kind(answer: Record) -> u8
         Record::Done => DONE,
         Record::Data { from: _, len: _ } => DATA,
         Record::BusError(_) => BUS_ERROR,
-        Record::Spent => NO_RECORD,
+        Record::Spent => SPENT,
     }
 }
 
+// The length in the record's header.
 pub fn len(answer: Record) -> usize
     ensures { λ r. ⌜ r ≡ lengthOf answer ⌝ }
 {
