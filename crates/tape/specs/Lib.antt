@@ -1,0 +1,6 @@
+pub mod Tape
+pub mod Record
+pub mod Judge
+pub mod Records
+pub mod Reader
+pub mod Statements
