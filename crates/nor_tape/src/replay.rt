@@ -1,0 +1,155 @@
+// A call over a tape: bus actions are answered by its records, select and delay by "done".
+use nor_driver::state::Call;
+use nor_driver::state::Given;
+use nor_driver::state::SpiNorFlash;
+use nor_driver::state::Stepped;
+use nor_driver::step;
+use qspi::bus::Action;
+use qspi::bus::Reply;
+use qspi::bytes;
+use spi_flash::error::FlashError;
+use tape::judge;
+use tape::reader;
+use tape::record::Record;
+ghost use mathlib.Core.Path.{_≡_};
+ghost use lib.ListN.{length};
+ghost use Rattle.nor_tape.specs.Replay.{onBus, replayAt, begunOver, playedTo, plainOver, recordOver, advancedOver};
+
+// The driver with what it gave last, and the position of the reader's next record.
+pub struct Replay {
+    pub stepped: Stepped,
+    pub at: usize,
+}
+
+// Only bus actions use a record.
+pub fn on_bus(action: Action) -> bool
+    ensures { λ r. ⌜ r ≡ onBus action ⌝ }
+{
+    match action {
+        Action::SelectLow => false,
+        Action::SelectHigh => false,
+        Action::Write(_) => true,
+        Action::Read(_) => true,
+        Action::QuadRead {
+            command: _,
+            tclqv_ns: _,
+            margin: _,
+            len: _,
+        } => true,
+        Action::QuadWrite {
+            command: _,
+            payload: _,
+        } => true,
+        Action::Delay(_) => false,
+    }
+}
+
+pub fn replay_at(stepped: Stepped, at: usize) -> Replay
+    ensures { λ r. ⌜ r ≡ replayAt stepped at ⌝ }
+{
+    Replay {
+        stepped: stepped,
+        at: at,
+    }
+}
+
+// The whole tape is judged before the call is looked at.
+pub fn begin(
+    flash: SpiNorFlash,
+    call: Call,
+    tape: &[u8],
+    scratch: &[u8],
+    buffer: &[u8],
+    data: &[u8],
+) -> Replay
+    ensures { λ r. ⌜ r ≡ begunOver flash call (now (tape .entry)) (length (now (scratch .entry))) (length (now (buffer .entry))) (length (now («data» .entry))) ⌝ }
+{
+    if judge::well_formed(tape) {
+        return replay_at(
+            flash.begin(call, scratch, buffer, data),
+            judge::first(tape),
+        );
+    }
+    replay_at(step::refused(flash, FlashError::MalformedTape), 0)
+}
+
+// The reply that is no record: select and delay.
+fn plain(
+    flash: SpiNorFlash,
+    at: usize,
+    scratch: &mut [u8],
+    buffer: &mut [u8],
+    data: &[u8],
+) -> Replay
+    ensures { λ r. ⌜ playedTo r (now (scratch .exit)) (now (buffer .exit)) ≡ plainOver flash at (now (scratch .entry)) (now (buffer .entry)) (now («data» .entry)) ⌝ }
+{
+    let nothing = [0u8; 0];
+    let stepped = step::step(flash, Reply::Done, &nothing, scratch, buffer, data);
+    replay_at(stepped, at)
+}
+
+// The reply in the record at the reader's position. Where there is none, the call stays unfinished.
+fn recorded(
+    flash: SpiNorFlash,
+    at: usize,
+    tape: &[u8],
+    scratch: &mut [u8],
+    buffer: &mut [u8],
+    data: &[u8],
+) -> Replay
+    ensures { λ r. ⌜ playedTo r (now (scratch .exit)) (now (buffer .exit)) ≡ recordOver flash at (now (tape .entry)) (now (scratch .entry)) (now (buffer .entry)) (now («data» .entry)) ⌝ }
+{
+    let taken = reader::next_at(tape, at);
+    let given = taken.given;
+    let next = taken.next;
+    let nothing = [0u8; 0];
+    match given {
+        Record::Done => replay_at(
+            step::step(flash, Reply::Done, &nothing, scratch, buffer, data),
+            next,
+        ),
+        Record::Data { from, len } => replay_at(
+            step::step(
+                flash,
+                Reply::Data,
+                bytes::part(tape, from, len),
+                scratch,
+                buffer,
+                data,
+            ),
+            next,
+        ),
+        Record::BusError(code) => replay_at(
+            step::step(flash, Reply::Error(code), &nothing, scratch, buffer, data),
+            next,
+        ),
+        Record::Spent => replay_at(step::refused(flash, FlashError::TapeSpent), next),
+    }
+}
+
+// Performs the action that is out. A replay that has come to an end stays as it is.
+pub fn advance(
+    replay: Replay,
+    tape: &[u8],
+    scratch: &mut [u8],
+    buffer: &mut [u8],
+    data: &[u8],
+) -> Replay
+    ensures { λ r. ⌜ playedTo r (now (scratch .exit)) (now (buffer .exit)) ≡ advancedOver replay (now (tape .entry)) (now (scratch .entry)) (now (buffer .entry)) (now («data» .entry)) ⌝ }
+{
+    let stepped = replay.stepped;
+    let given = stepped.given;
+    let flash = stepped.flash;
+    match given {
+        Given::Act(action) => {
+            if on_bus(action) {
+                recorded(flash, replay.at, tape, scratch, buffer, data)
+            } else {
+                plain(flash, replay.at, scratch, buffer, data)
+            }
+        }
+        Given::Ended(_) => replay,
+        Given::Failed(_) => replay,
+        Given::Refused(_) => replay,
+    }
+}
