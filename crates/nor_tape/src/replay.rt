@@ -65,10 +65,7 @@ pub fn begin(
     ensures { λ r. ⌜ r ≡ begunOver flash call (now (tape .entry)) (length (now (scratch .entry))) (length (now (buffer .entry))) (length (now («data» .entry))) ⌝ }
 {
     if judge::well_formed(tape) {
-        return replay_at(
-            flash.begin(call, scratch, buffer, data),
-            judge::first(tape),
-        );
+        return replay_at(flash.begin(call, scratch, buffer, data), judge::first(tape));
     }
     replay_at(step::refused(flash, FlashError::MalformedTape), 0)
 }
