@@ -1,0 +1,1 @@
+// What holds over a whole replay: specs and proofs alone, no code.
