@@ -2,7 +2,7 @@
 use Prim.Native.Nat.{ℕ}
 use mathlib.Core.List.{List}
 use Rattle.spi_flash.specs.Error.{errorNumber, errorValues}
-use Rattle.nor_phases.specs.Answer.{answerValues}
+use Rattle.nor_answers.specs.Answer.{answerValues}
 use Rattle.nor_driver.specs.declared.state.Given.{Given}
 
 -- "0 is success"; an action has not ended, and has no number

@@ -8,17 +8,15 @@ use Rattle.qspi.specs.declared.transfer.Transfer.{Transfer}
 use Rattle.spi_flash.specs.declared.error.FlashError.{FlashError}
 use Rattle.spi_flash.specs.declared.loan.Takes.{Takes}
 use Rattle.spi_nor.specs.Config.{w25q128jv, inBoundsOf, singleConfig, jedecId}
-use Rattle.spi_nor.specs.Command.{readIdCommand, readUniqueIdCommand}
 use Rattle.spi_nor.specs.declared.config.DeviceSetting.{DeviceSetting}
 use Rattle.spi_nor.specs.declared.config.NorDeviceInfo.{NorDeviceInfo}
 use Rattle.spi_nor.specs.declared.config.SpiNorConfig.{SpiNorConfig}
-use Rattle.nor_phases.specs.Transfer.{numberTransfer, inRange, multipleOf, afterUnit}
-use Rattle.nor_phases.specs.Next.{goTo, read1Then, read2Then, readFrom, programFrom, eraseUnit, eraseFrom}
+use Rattle.nor_next.specs.Next.{goTo, read1Then, read2Then, readIdThen, readUniqueIdThen, readThen, writeThen, eraseThen, eraseOne}
 use Rattle.nor_phases.specs.declared.phase.EraseKind.{EraseKind}
 use Rattle.nor_phases.specs.declared.phase.Phase.{Phase}
-use Rattle.nor_phases.specs.declared.setup.Answer.{Answer}
+use Rattle.nor_answers.specs.declared.answer.Answer.{Answer}
 use Rattle.nor_phases.specs.declared.setup.Setup.{Setup}
-use Rattle.nor_phases.specs.declared.setup.Then.{Then}
+use Rattle.nor_next.specs.declared.then.Then.{Then}
 use Rattle.nor_driver.specs.Step.{flashOf, refusedOf, settledOf}
 use Rattle.nor_driver.specs.declared.state.Call.{Call}
 use Rattle.nor_driver.specs.declared.state.Given.{Given}
@@ -77,28 +75,33 @@ begunOf flash scratch takes then =
     (pick (inBoundsOf (flash .setup .device)) (openedOf flash takes then) (refusedOf flash FlashError.InvalidGeometry)))
     (refusedOf flash FlashError.OutOfTurn)
 
--- ---- the Rust's own tests, range before alignment
-
-unfoldable pub readThen : Setup → ℕ → ℕ → Then
-readThen setup offset len = pick (inRange (setup .device .capacity) offset len) (readFrom setup offset len 0) (Then.Fail FlashError.OutOfBounds)
-
-unfoldable pub writeThen : Setup → ℕ → ℕ → Then
-writeThen setup offset len =
-    pick (inRange (setup .device .capacity) offset len)
-    (pick (multipleOf offset (setup .device .«page_size»))
-    (pick (multipleOf len (setup .device .«page_size»)) (programFrom setup offset len 0) (Then.Fail FlashError.NotAligned))
-    (Then.Fail FlashError.NotAligned))
-    (Then.Fail FlashError.OutOfBounds)
-
-unfoldable pub eraseThen : Setup → ℕ → ℕ → Then
-eraseThen setup from to =
-    pick (ltb to from) (Then.Fail FlashError.OutOfBounds)
-    (pick (ltb (setup .device .capacity) to) (Then.Fail FlashError.OutOfBounds)
-    (pick (multipleOf from (setup .device .«sector_size»))
-    (pick (multipleOf to (setup .device .«sector_size»)) (eraseFrom setup from to) (Then.Fail FlashError.NotAligned))
-    (Then.Fail FlashError.NotAligned)))
-
 -- ---- every call, with the lengths of what is lent: scratch, buffer, data
+
+-- the first transfer of a call that takes nothing, or the Rust's own refusal; the other calls have none here
+unfoldable pub openingOf : Setup → Call → Then
+openingOf setup Call.ReadStatus1 = read1Then setup Phase.Status1
+openingOf setup Call.ReadStatus2 = read2Then setup Phase.Status2
+openingOf setup Call.IsBusy = read1Then setup Phase.Busy
+openingOf setup Call.JedecId = readIdThen setup Phase.JedecId
+openingOf setup Call.UniqueId = readUniqueIdThen setup Phase.UniqueId
+openingOf setup Call.QuadEnabled = read2Then setup Phase.QuadEnabled2
+openingOf setup Call.EnableQuad = read2Then setup Phase.EnableCheck2
+openingOf setup Call.DisableQuad = read2Then setup Phase.DisableRead2
+openingOf setup Call.Unprotect = read1Then setup Phase.UnprotectRead1
+openingOf setup (Call.Erase from to) = eraseThen setup from to
+openingOf setup (Call.EraseSector offset) = eraseOne setup EraseKind.Sector offset
+openingOf setup (Call.EraseBlock offset) = eraseOne setup EraseKind.Block offset
+openingOf setup Call.New = Then.Fail FlashError.OutOfTurn
+openingOf setup (Call.WithConfig config) = Then.Fail FlashError.OutOfTurn
+openingOf setup Call.Config = Then.Fail FlashError.OutOfTurn
+openingOf setup Call.Device = Then.Fail FlashError.OutOfTurn
+openingOf setup Call.Id = Then.Fail FlashError.OutOfTurn
+openingOf setup Call.Free = Then.Fail FlashError.OutOfTurn
+openingOf setup (Call.Read offset) = Then.Fail FlashError.OutOfTurn
+openingOf setup (Call.Write offset) = Then.Fail FlashError.OutOfTurn
+
+abbrev pub plainOf : SpiNorFlash → Call → ℕ → Stepped
+plainOf flash call s = begunOf flash s Takes.Nothing (openingOf (flash .setup) call)
 
 unfoldable pub idleOf : SpiNorFlash → Call → ℕ → ℕ → ℕ → Stepped
 idleOf flash Call.New s b d = constructedOf flash singleConfig s
@@ -107,22 +110,20 @@ idleOf flash Call.Config s b d = toldOf flash (Answer.Config (flash .setup .conf
 idleOf flash Call.Device s b d = toldOf flash (Answer.Device (flash .setup .device))
 idleOf flash Call.Id s b d = toldOf flash (Answer.Id (flash .setup .id))
 idleOf flash Call.Free s b d = freedOf flash
-idleOf flash Call.ReadStatus1 s b d = begunOf flash s Takes.Nothing (read1Then (flash .setup) Phase.Status1)
-idleOf flash Call.ReadStatus2 s b d = begunOf flash s Takes.Nothing (read2Then (flash .setup) Phase.Status2)
-idleOf flash Call.IsBusy s b d = begunOf flash s Takes.Nothing (read1Then (flash .setup) Phase.Busy)
-idleOf flash Call.JedecId s b d = begunOf flash s Takes.Nothing (goTo (flash .setup) (numberTransfer readIdCommand 3) Phase.JedecId)
-idleOf flash Call.UniqueId s b d = begunOf flash s Takes.Nothing (goTo (flash .setup) (numberTransfer readUniqueIdCommand 8) Phase.UniqueId)
-idleOf flash Call.QuadEnabled s b d = begunOf flash s Takes.Nothing (read2Then (flash .setup) Phase.QuadEnabled2)
-idleOf flash Call.EnableQuad s b d = begunOf flash s Takes.Nothing (read2Then (flash .setup) Phase.EnableCheck2)
-idleOf flash Call.DisableQuad s b d = begunOf flash s Takes.Nothing (read2Then (flash .setup) Phase.DisableRead2)
 idleOf flash (Call.Read offset) s b d = begunOf flash s (Takes.Buffer b) (readThen (flash .setup) offset b)
 idleOf flash (Call.Write offset) s b d = begunOf flash s (Takes.Data d) (writeThen (flash .setup) offset d)
-idleOf flash Call.Unprotect s b d = begunOf flash s Takes.Nothing (read1Then (flash .setup) Phase.UnprotectRead1)
-idleOf flash (Call.Erase from to) s b d = begunOf flash s Takes.Nothing (eraseThen (flash .setup) from to)
-idleOf flash (Call.EraseSector offset) s b d =
-    begunOf flash s Takes.Nothing (eraseUnit (flash .setup) EraseKind.Sector offset (afterUnit (flash .setup .device) EraseKind.Sector offset))
-idleOf flash (Call.EraseBlock offset) s b d =
-    begunOf flash s Takes.Nothing (eraseUnit (flash .setup) EraseKind.Block offset (afterUnit (flash .setup .device) EraseKind.Block offset))
+idleOf flash Call.ReadStatus1 s b d = plainOf flash Call.ReadStatus1 s
+idleOf flash Call.ReadStatus2 s b d = plainOf flash Call.ReadStatus2 s
+idleOf flash Call.IsBusy s b d = plainOf flash Call.IsBusy s
+idleOf flash Call.JedecId s b d = plainOf flash Call.JedecId s
+idleOf flash Call.UniqueId s b d = plainOf flash Call.UniqueId s
+idleOf flash Call.QuadEnabled s b d = plainOf flash Call.QuadEnabled s
+idleOf flash Call.EnableQuad s b d = plainOf flash Call.EnableQuad s
+idleOf flash Call.DisableQuad s b d = plainOf flash Call.DisableQuad s
+idleOf flash Call.Unprotect s b d = plainOf flash Call.Unprotect s
+idleOf flash (Call.Erase from to) s b d = plainOf flash (Call.Erase from to) s
+idleOf flash (Call.EraseSector offset) s b d = plainOf flash (Call.EraseSector offset) s
+idleOf flash (Call.EraseBlock offset) s b d = plainOf flash (Call.EraseBlock offset) s
 
 abbrev pub beginAt : Running → SpiNorFlash → Call → ℕ → ℕ → ℕ → Stepped
 beginAt Running.Idle flash call s b d = idleOf flash call s b d

@@ -12,10 +12,10 @@ use Rattle.qspi.specs.declared.frame.Frame.{Frame}
 use Rattle.spi_flash.specs.Loan.{readyOf}
 use Rattle.spi_flash.specs.declared.error.FlashError.{FlashError}
 use Rattle.spi_flash.specs.declared.loan.Takes.{Takes}
-use Rattle.nor_phases.specs.Next.{nextOf}
-use Rattle.nor_phases.specs.declared.setup.Answer.{Answer}
+use Rattle.nor_next.specs.Next.{nextOf}
+use Rattle.nor_answers.specs.declared.answer.Answer.{Answer}
 use Rattle.nor_phases.specs.declared.setup.Setup.{Setup}
-use Rattle.nor_phases.specs.declared.setup.Then.{Then}
+use Rattle.nor_next.specs.declared.then.Then.{Then}
 use Rattle.nor_driver.specs.declared.state.Given.{Given}
 use Rattle.nor_driver.specs.declared.state.Job.{Job}
 use Rattle.nor_driver.specs.declared.state.Running.{Running}

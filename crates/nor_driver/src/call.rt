@@ -5,25 +5,23 @@ use crate::state::Running;
 use crate::state::SpiNorFlash;
 use crate::state::Stepped;
 use crate::step;
-use nor_phases::next;
+use nor_answers::answer::Answer;
+use nor_next::next;
+use nor_next::then::Then;
 use nor_phases::phase::EraseKind;
 use nor_phases::phase::Phase;
-use nor_phases::setup::Answer;
 use nor_phases::setup::Setup;
-use nor_phases::setup::Then;
-use nor_phases::transfer;
 use qspi::command::SCRATCH_LEN;
 use qspi::transfer::Transfer;
 use spi_flash::error::FlashError;
 use spi_flash::loan::Takes;
-use spi_nor::command;
 use spi_nor::config::DeviceSetting;
 use spi_nor::config::NorDeviceInfo;
 use spi_nor::config::NorJedecId;
 use spi_nor::config::SpiNorConfig;
 ghost use mathlib.Core.Path.{_≡_};
 ghost use lib.ListN.{length};
-ghost use Rattle.nor_driver.specs.Call.{notBuilt, givenDevice, constructedOf, toldOf, freedOf, openedOf, begunOf, readThen, writeThen, eraseThen, idleOf, beginOf};
+ghost use Rattle.nor_driver.specs.Call.{notBuilt, givenDevice, constructedOf, toldOf, freedOf, openedOf, begunOf, openingOf, idleOf, beginOf};
 
 impl SpiNorFlash {
     // A driver before any construction.
@@ -122,24 +120,12 @@ fn opened(flash: SpiNorFlash, takes: Takes, then: Then) -> Stepped
 {
     let setup = flash.setup;
     match then {
-        Then::Go {
-            setup: _,
-            transfer: _,
-            phase: _,
-        } => step::settle(
-            step::flash_of(setup, flash.built, 0, Running::Idle),
-            takes,
-            then,
-        ),
-        Then::End {
-            setup: _,
-            answer: _,
-        } => step::settle(
-            step::flash_of(setup, flash.built, 0, Running::Idle),
-            takes,
-            then,
-        ),
         Then::Fail(error) => step::refused(flash, error),
+        _ => step::settle(
+            step::flash_of(setup, flash.built, 0, Running::Idle),
+            takes,
+            then,
+        ),
     }
 }
 
@@ -161,56 +147,28 @@ fn begun(flash: SpiNorFlash, scratch_len: usize, takes: Takes, then: Then) -> St
     step::refused(flash, FlashError::OutOfTurn)
 }
 
-fn read_then(setup: Setup, offset: u32, len: usize) -> Then
-    ensures { λ r. ⌜ r ≡ readThen setup offset len ⌝ }
-{
-    let device = setup.device;
-    if transfer::in_range(device.capacity, offset, len) {
-        next::read_from(setup, offset, len, 0)
-    } else {
-        Then::Fail(FlashError::OutOfBounds)
-    }
-}
-
-fn write_then(setup: Setup, offset: u32, len: usize) -> Then
-    ensures { λ r. ⌜ r ≡ writeThen setup offset len ⌝ }
-{
-    let device = setup.device;
-    let page = device.page_size;
-    if transfer::in_range(device.capacity, offset, len) {
-        if transfer::multiple_of(offset as usize, page) {
-            if transfer::multiple_of(len, page) {
-                return next::program_from(setup, offset, len, 0);
-            }
-            return Then::Fail(FlashError::NotAligned);
-        }
-        Then::Fail(FlashError::NotAligned)
-    } else {
-        Then::Fail(FlashError::OutOfBounds)
-    }
-}
-
-fn erase_then(setup: Setup, from: u32, to: u32) -> Then
-    ensures { λ r. ⌜ r ≡ eraseThen setup from to ⌝ }
-{
-    let device = setup.device;
-    let sector = device.sector_size;
-    if from > to {
-        return Then::Fail(FlashError::OutOfBounds);
-    }
-    if to as usize > device.capacity {
-        return Then::Fail(FlashError::OutOfBounds);
-    }
-    if transfer::multiple_of(from as usize, sector) {
-        if transfer::multiple_of(to as usize, sector) {
-            return next::erase_from(setup, from, to);
-        }
-        return Then::Fail(FlashError::NotAligned);
-    }
-    Then::Fail(FlashError::NotAligned)
-}
-
 // ---- every call
+
+// The first transfer of a call that takes nothing, or its refusal. The other calls have none here.
+fn opening(setup: Setup, call: Call) -> Then
+    ensures { λ r. ⌜ r ≡ openingOf setup call ⌝ }
+{
+    match call {
+        Call::ReadStatus1 => next::read1(setup, Phase::Status1),
+        Call::ReadStatus2 => next::read2(setup, Phase::Status2),
+        Call::IsBusy => next::read1(setup, Phase::Busy),
+        Call::JedecId => next::read_id(setup, Phase::JedecId),
+        Call::UniqueId => next::read_unique_id(setup, Phase::UniqueId),
+        Call::QuadEnabled => next::read2(setup, Phase::QuadEnabled2),
+        Call::EnableQuad => next::read2(setup, Phase::EnableCheck2),
+        Call::DisableQuad => next::read2(setup, Phase::DisableRead2),
+        Call::Unprotect => next::read1(setup, Phase::UnprotectRead1),
+        Call::Erase { from, to } => next::erase_then(setup, from, to),
+        Call::EraseSector { offset } => next::erase_one(setup, EraseKind::Sector, offset),
+        Call::EraseBlock { offset } => next::erase_one(setup, EraseKind::Block, offset),
+        _ => Then::Fail(FlashError::OutOfTurn),
+    }
+}
 
 fn idle(
     flash: SpiNorFlash,
@@ -232,108 +190,19 @@ fn idle(
         Call::Device => told(flash, Answer::Device(device)),
         Call::Id => told(flash, Answer::Id(id)),
         Call::Free => freed(flash),
-        Call::ReadStatus1 => begun(
-            flash,
-            scratch_len,
-            Takes::Nothing,
-            next::read1(setup, Phase::Status1),
-        ),
-        Call::ReadStatus2 => begun(
-            flash,
-            scratch_len,
-            Takes::Nothing,
-            next::read2(setup, Phase::Status2),
-        ),
-        Call::IsBusy => begun(
-            flash,
-            scratch_len,
-            Takes::Nothing,
-            next::read1(setup, Phase::Busy),
-        ),
-        Call::JedecId => begun(
-            flash,
-            scratch_len,
-            Takes::Nothing,
-            next::go(
-                setup,
-                transfer::number_transfer(command::read_id_command(), 3),
-                Phase::JedecId,
-            ),
-        ),
-        Call::UniqueId => begun(
-            flash,
-            scratch_len,
-            Takes::Nothing,
-            next::go(
-                setup,
-                transfer::number_transfer(command::read_unique_id_command(), 8),
-                Phase::UniqueId,
-            ),
-        ),
-        Call::QuadEnabled => begun(
-            flash,
-            scratch_len,
-            Takes::Nothing,
-            next::read2(setup, Phase::QuadEnabled2),
-        ),
-        Call::EnableQuad => begun(
-            flash,
-            scratch_len,
-            Takes::Nothing,
-            next::read2(setup, Phase::EnableCheck2),
-        ),
-        Call::DisableQuad => begun(
-            flash,
-            scratch_len,
-            Takes::Nothing,
-            next::read2(setup, Phase::DisableRead2),
-        ),
         Call::Read { offset } => begun(
             flash,
             scratch_len,
             Takes::Buffer(buffer_len),
-            read_then(setup, offset, buffer_len),
+            next::read_then(setup, offset, buffer_len),
         ),
         Call::Write { offset } => begun(
             flash,
             scratch_len,
             Takes::Data(data_len),
-            write_then(setup, offset, data_len),
+            next::write_then(setup, offset, data_len),
         ),
-        Call::Unprotect => begun(
-            flash,
-            scratch_len,
-            Takes::Nothing,
-            next::read1(setup, Phase::UnprotectRead1),
-        ),
-        Call::Erase { from, to } => begun(
-            flash,
-            scratch_len,
-            Takes::Nothing,
-            erase_then(setup, from, to),
-        ),
-        Call::EraseSector { offset } => begun(
-            flash,
-            scratch_len,
-            Takes::Nothing,
-            next::erase_unit(
-                setup,
-                EraseKind::Sector,
-                offset,
-                transfer::after_unit(device, EraseKind::Sector, offset),
-            ),
-        ),
-        Call::EraseBlock { offset } => begun(
-            flash,
-            scratch_len,
-            Takes::Nothing,
-            next::erase_unit(
-                setup,
-                EraseKind::Block,
-                offset,
-                transfer::after_unit(device, EraseKind::Block, offset),
-            ),
-        ),
+        _ => begun(flash, scratch_len, Takes::Nothing, opening(setup, call)),
     }
 }
 

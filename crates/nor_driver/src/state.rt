@@ -1,6 +1,6 @@
 // The driver's state, its calls and what a step gives.
+use nor_answers::answer::Answer;
 use nor_phases::phase::Phase;
-use nor_phases::setup::Answer;
 use nor_phases::setup::Setup;
 use qspi::bus::Action;
 use qspi::frame::Frame;

@@ -1,3 +1,1 @@
 pub mod Transfer
-pub mod Next
-pub mod Answer

@@ -1,6 +1,4 @@
-// The calls of SpiNorFlash (nor/driver.rs), cut where they use the bus: each transfer, and what follows it.
-pub mod answer;
-pub mod next;
+// Where a call of SpiNorFlash stands (nor/driver.rs), what it works on, and its transfers.
 pub mod phase;
 pub mod setup;
 pub mod transfer;

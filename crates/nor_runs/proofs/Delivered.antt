@@ -20,10 +20,10 @@ use Rattle.spi_flash.specs.Seen.{unlessRefused, dataAt, bytesRead}
 use Rattle.spi_flash.specs.declared.loan.Takes.{Takes}
 use Rattle.spi_flash.proofs.Filling.{Fills, FillsOn, Filling, FillsNext, Fed, fed, over-quiet}
 use Rattle.spi_flash.proofs.Buffer.{buffer-length, fills-next, keeps-next}
-use Rattle.nor_phases.specs.Next.{nextOf}
+use Rattle.nor_next.specs.Next.{nextOf}
 use Rattle.nor_phases.specs.declared.phase.Phase.{Phase}
 use Rattle.nor_phases.specs.declared.setup.Setup.{Setup}
-use Rattle.nor_phases.specs.declared.setup.Then.{Then}
+use Rattle.nor_next.specs.declared.then.Then.{Then}
 use Rattle.nor_driver.specs.Step.{flashOf, movedTo, settledOf, stepOf}
 use Rattle.nor_driver.specs.Call.{beginOf}
 use Rattle.nor_driver.specs.declared.state.Call.{Call}

@@ -10,7 +10,7 @@ use Rattle.spi_flash.specs.declared.wait.Wait.{Wait}
 use Rattle.spi_nor.specs.Opcode.{timingsOf}
 use Rattle.spi_nor.specs.Status.{busyOf, writeEnabledOf, quadEnabled1Of, quadEnabled2Of, unprotected1Of, unprotected2Of}
 use Rattle.nor_phases.specs.Transfer.{placeOf, chunkOf, pageOf, taskOperation, inRange, multipleOf, unitSize, stepKind, afterUnit}
-use Rattle.nor_phases.specs.Next.{byteOf, idOf, deviceAt, deviceFor, knownAs, builtThen, readFrom, programFrom, verifyThen, verifiedThen, latchedThen, eraseUnit, eraseFrom, unprotectFirst, unprotectSecond, resumeTask, waitThen, identifiedThen, afterPhase}
+use Rattle.nor_next.specs.Next.{byteOf, idOf, deviceAt, deviceFor, knownAs, builtThen, readFrom, programFrom, verifyThen, verifiedThen, latchedThen, eraseUnit, eraseFrom, unprotectFirst, unprotectSecond, resumeTask, waitThen, identifiedThen, afterPhase}
 use Rattle.spi_nor.specs.Config.{inBoundsOf, fromJedec}
 use Rattle.spi_nor.proofs.DeviceBounds.{deviceBounds}
 use Rattle.spi_nor.specs.declared.config.DeviceSetting.{DeviceSetting}
@@ -20,11 +20,11 @@ use Rattle.spi_nor.specs.declared.config.QuadSetting.{QuadSetting}
 use Rattle.nor_phases.specs.declared.phase.EraseKind.{EraseKind}
 use Rattle.nor_phases.specs.declared.phase.Phase.{Phase}
 use Rattle.nor_phases.specs.declared.phase.Task.{Task}
-use Rattle.nor_phases.specs.declared.setup.Answer.{Answer}
+use Rattle.nor_answers.specs.declared.answer.Answer.{Answer}
 use Rattle.qspi.specs.declared.transfer.Transfer.{Transfer}
 use Rattle.spi_flash.specs.declared.error.FlashError.{FlashError}
 use Rattle.nor_phases.specs.declared.setup.Setup.{Setup}
-use Rattle.nor_phases.specs.declared.setup.Then.{Then}
+use Rattle.nor_next.specs.declared.then.Then.{Then}
 use Rattle.nor_runs.proofs.Places.{decide, Valid, Built, Stays}
 
 -- a test between two ways of going on

@@ -15,7 +15,7 @@ use Rattle.spi_flash.specs.Run as Run
 use Rattle.spi_flash.specs.Run.{Event, reply, call, goesOn, atOnce, callOf, stateAfter}
 use Rattle.spi_flash.specs.Seen.{toldThen, told}
 use Rattle.spi_flash.specs.declared.loan.Takes.{Takes}
-use Rattle.nor_phases.specs.Next.{nextOf}
+use Rattle.nor_next.specs.Next.{nextOf}
 use Rattle.nor_driver.specs.Step.{flashOf, movedTo, settledOf, stepOf}
 use Rattle.nor_driver.specs.Call.{beginOf}
 use Rattle.nor_runs.specs.Program.{Left}
@@ -27,7 +27,7 @@ use Rattle.nor_driver.specs.declared.state.Job.{Job}
 use Rattle.nor_driver.specs.declared.state.Running.{Running}
 use Rattle.nor_phases.specs.declared.setup.Setup.{Setup}
 use Rattle.nor_driver.specs.declared.state.SpiNorFlash.{SpiNorFlash}
-use Rattle.nor_phases.specs.declared.setup.Then.{Then}
+use Rattle.nor_next.specs.declared.then.Then.{Then}
 use Rattle.nor_runs.proofs.Places.{Built, Stays}
 use Rattle.nor_runs.proofs.Keeps.{stays, keeps-built}
 use Rattle.nor_runs.proofs.Steps.{step-view}

@@ -22,21 +22,21 @@ use Rattle.spi_nor.specs.Command.{readIdCommand, readUniqueIdCommand}
 use Rattle.spi_nor.specs.declared.config.QuadSetting.{QuadSetting}
 use Rattle.spi_nor.specs.declared.config.SpiNorConfig.{SpiNorConfig}
 use Rattle.nor_phases.specs.Transfer.{numberTransfer, placeOf, chunkOf, readAt, readTransfer, inRange, multipleOf, unitSize, stepKind, afterUnit}
-use Rattle.nor_phases.specs.Next.{goTo, read1Then, read2Then, readFrom, programFrom, eraseUnit, eraseFrom}
+use Rattle.nor_next.specs.Next.{goTo, read1Then, read2Then, readThen, readFrom, writeThen, programFrom, eraseUnit, eraseThen, eraseFrom}
 use Rattle.nor_driver.specs.Step.{flashOf}
-use Rattle.nor_driver.specs.Call.{givenDevice, freshSetup, constructedOf, toldOf, freedOf, begunOf, readThen, writeThen, eraseThen, idleOf, beginOf}
+use Rattle.nor_driver.specs.Call.{givenDevice, freshSetup, constructedOf, toldOf, freedOf, begunOf, openingOf, idleOf, beginOf}
 use Rattle.nor_runs.specs.Rust.{read, write, erase-unit, erase, erasing}
 use Rattle.nor_runs.specs.Program.{Left, leaving, programOf}
 use Rattle.nor_runs.specs.Run.{constructs, tells, releases, uses, sortOf, begunAs, nor, takesOf}
 use Rattle.nor_runs.specs.ProgramBounds.{Begins, judgedSetup}
 use Rattle.nor_phases.specs.declared.phase.EraseKind.{EraseKind}
 use Rattle.nor_phases.specs.declared.phase.Phase.{Phase}
-use Rattle.nor_phases.specs.declared.setup.Answer.{Answer}
+use Rattle.nor_answers.specs.declared.answer.Answer.{Answer}
 use Rattle.nor_driver.specs.declared.state.Call.{Call}
 use Rattle.nor_driver.specs.declared.state.Running.{Running}
 use Rattle.nor_phases.specs.declared.setup.Setup.{Setup}
 use Rattle.nor_driver.specs.declared.state.SpiNorFlash.{SpiNorFlash}
-use Rattle.nor_phases.specs.declared.setup.Then.{Then}
+use Rattle.nor_next.specs.declared.then.Then.{Then}
 use Rattle.nor_runs.proofs.Loops.{erasing-loop}
 use Rattle.nor_runs.proofs.Places.{place, decide, Stays}
 use Rattle.nor_runs.proofs.Keeps.{stays, keeps-read, keeps-program, keeps-unit, keeps-erase, keeps-pick}
@@ -231,7 +231,7 @@ module _ (setup : Setup) (built : Bool) (delivered : ℕ) (c : Call) (l : Lent) 
     release : Release → Opening
 
 pub opening-of : (setup : Setup) (built : Bool) (delivered : ℕ) (c : Call) (l : Lent) → Opening setup built delivered c l
-unfolding beginOf idleOf programOf
+unfolding beginOf idleOf openingOf programOf
 opening-of s u n Call.New l = construction (record { sort = refl; config = singleConfig; is = refl; takes = refl; follows = beginnings s .construction singleConfig; judges = refl; tested = λ h. h })
 opening-of s u n (Call.WithConfig config) l = construction (record { sort = refl; config = config; is = refl; takes = refl; follows = beginnings s .construction config; judges = refl; tested = λ h. h })
 opening-of s u n Call.Config l = accessor (record { sort = refl; answer = Answer.Config (s .config); is = refl; follows = refl })

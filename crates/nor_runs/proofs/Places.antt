@@ -3,12 +3,12 @@ use mathlib.Core.Bool.{true}
 use mathlib.Core.Path.{_≡_}
 use Rattle.qspi.specs.declared.frame.Outcome.{Outcome}
 use Rattle.spi_flash.specs.Machine.{Decision, more, well, bad}
-use Rattle.nor_phases.specs.Next.{nextOf}
+use Rattle.nor_next.specs.Next.{nextOf}
 use Rattle.nor_runs.specs.Program.{Left, leaving}
 use Rattle.spi_nor.specs.Config.{inBoundsOf}
 use Rattle.nor_phases.specs.declared.phase.Phase.{Phase}
 use Rattle.nor_phases.specs.declared.setup.Setup.{Setup}
-use Rattle.nor_phases.specs.declared.setup.Then.{Then}
+use Rattle.nor_next.specs.declared.then.Then.{Then}
 
 -- where a call stands, with what the driver holds
 pub record Place : Type 0 where

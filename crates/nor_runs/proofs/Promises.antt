@@ -23,7 +23,7 @@ use Rattle.spi_flash.proofs.Reach.{reached}
 use Rattle.spi_nor.specs.Config.{inBoundsOf}
 use Rattle.nor_runs.specs.Bound.{delayBound, actionBound}
 use Rattle.nor_runs.specs.Program.{Left, programOf}
-use Rattle.nor_phases.specs.Answer.{answerValues}
+use Rattle.nor_answers.specs.Answer.{answerValues}
 use Rattle.nor_driver.specs.Answer.{Ending, endsWith}
 use Rattle.nor_runs.specs.ProgramBounds.{Begins, CanEnd, judgedSetup}
 use Rattle.nor_runs.specs.Run.{nor, takesOf}

@@ -22,7 +22,7 @@ use Rattle.spi_nor.specs.Status.{busyOf, writeEnabledOf, quadEnabled1Of, quadEn
 use Rattle.spi_nor.specs.Config.{fromJedec, singleConfig, inBoundsOf}
 use Rattle.nor_phases.specs.Transfer.{placeOf, chunkOf, readAt, readTransfer, programAt, programTransfer, inRange, multipleOf, unitSize, stepKind, afterUnit}
 use Rattle.nor_driver.specs.Call.{givenAt}
-use Rattle.nor_phases.specs.Next.{byteOf, deviceAt, deviceFor, idOf, knownAs}
+use Rattle.nor_next.specs.Next.{byteOf, deviceAt, deviceFor, idOf, knownAs}
 use Rattle.nor_driver.specs.Call.{freshSetup}
 use Rattle.nor_runs.specs.Rust.{read-status1, read-status2, is-busy, write-enable, write-status1, write-status2, jedec-id, unique-id, quad-enabled, enable-quad, disable-quad, reading, read, read-back, page-program, writing, write, erase-unit, erase-loop, erasing, erase, unprotect, quad-if, with-config}
 use Rattle.nor_runs.specs.Program.{Left, programOf}

@@ -16,17 +16,17 @@ use Rattle.spi_flash.specs.declared.error.FlashError.{FlashError}
 use Rattle.spi_flash.specs.declared.loan.Takes.{Takes}
 use Rattle.spi_nor.specs.Config.{inBoundsOf}
 use Rattle.spi_nor.specs.declared.config.SpiNorConfig.{SpiNorConfig}
-use Rattle.nor_phases.specs.Next.{nextOf}
+use Rattle.nor_next.specs.Next.{nextOf}
 use Rattle.nor_driver.specs.Step.{flashOf, settledOf, proceedOf, stepOf}
-use Rattle.nor_driver.specs.Call.{givenDevice, constructedOf, toldOf, freedOf, openedOf, begunOf, idleOf, beginOf}
-use Rattle.nor_phases.specs.declared.setup.Answer.{Answer}
+use Rattle.nor_driver.specs.Call.{givenDevice, constructedOf, toldOf, freedOf, openedOf, begunOf, openingOf, idleOf, beginOf}
+use Rattle.nor_answers.specs.declared.answer.Answer.{Answer}
 use Rattle.nor_driver.specs.declared.state.Call.{Call}
 use Rattle.nor_driver.specs.declared.state.Job.{Job}
 use Rattle.nor_driver.specs.declared.state.Running.{Running}
 use Rattle.nor_phases.specs.declared.setup.Setup.{Setup}
 use Rattle.nor_driver.specs.declared.state.SpiNorFlash.{SpiNorFlash}
 use Rattle.nor_driver.specs.declared.state.Stepped.{Stepped}
-use Rattle.nor_phases.specs.declared.setup.Then.{Then}
+use Rattle.nor_next.specs.declared.then.Then.{Then}
 use Rattle.nor_runs.specs.Program.{Left}
 use Rattle.nor_runs.specs.Run.{begunAs, steppedAs, nor}
 use Rattle.nor_runs.specs.Promises.{RefusalsKeep}
@@ -113,7 +113,7 @@ module _ (flash : SpiNorFlash) where
   freed-kept l = kept-pick l (flash .built) _ _ (λ e h. absurd (ends-not _ e h)) (λ e h. (refl, refl))
 
 idle-kept : (s : Setup) (u : Bool) (n : ℕ) (c : Call) (w b d : ℕ) (l : Lent) → KeepsCall (flashOf s u n Running.Idle) l (idleOf (flashOf s u n Running.Idle) c w b d)
-unfolding idleOf
+unfolding idleOf openingOf
 idle-kept s u n Call.New w b d l = constructed-kept _ _ w l
 idle-kept s u n (Call.WithConfig config) w b d l = constructed-kept _ _ w l
 idle-kept s u n Call.Config w b d l = told-kept _ _ l

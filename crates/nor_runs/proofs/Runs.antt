@@ -16,7 +16,7 @@ use Rattle.spi_flash.specs.Machine.{Config, out, rest, lentAs, settle, moved, a
 use Rattle.spi_flash.specs.declared.loan.Takes.{Takes}
 use Rattle.spi_flash.proofs.Cases.{by-cases}
 use Rattle.nor_driver.specs.Step.{flashOf, settledOf, afterwards, proceedOf, stepOf}
-use Rattle.nor_phases.specs.Next.{nextOf}
+use Rattle.nor_next.specs.Next.{nextOf}
 use Rattle.nor_driver.specs.Call.{beginOf}
 use Rattle.nor_runs.specs.Program.{Left}
 use Rattle.nor_runs.specs.Run.{steppedAs, nor}
@@ -25,7 +25,7 @@ use Rattle.nor_driver.specs.declared.state.Job.{Job}
 use Rattle.nor_driver.specs.declared.state.Running.{Running}
 use Rattle.nor_phases.specs.declared.setup.Setup.{Setup}
 use Rattle.nor_driver.specs.declared.state.SpiNorFlash.{SpiNorFlash}
-use Rattle.nor_phases.specs.declared.setup.Then.{Then}
+use Rattle.nor_next.specs.declared.then.Then.{Then}
 use Rattle.nor_runs.proofs.Places.{Place, place, decide, decideNext}
 
 -- a driver as the machine sees it

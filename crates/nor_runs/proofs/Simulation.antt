@@ -18,7 +18,7 @@ use Rattle.spi_nor.specs.Opcode.{timingsOf}
 use Rattle.spi_nor.specs.Status.{busyOf, writeEnabledOf, quadEnabled1Of, quadEnabled2Of, withQuad1Of, withQuad2Of, withoutQuad1Of, withoutQuad2Of, unprotected1Of, unprotected2Of}
 use Rattle.spi_nor.specs.Command.{writeEnableCommand, readStatus1Command, readStatus2Command, readIdCommand, readUniqueIdCommand}
 use Rattle.nor_phases.specs.Transfer.{numberTransfer, placeOf, chunkOf, pageOf, taskTransfer, taskOperation, inRange, multipleOf, unitSize, stepKind, afterUnit}
-use Rattle.nor_phases.specs.Next.{byteOf, idOf, knownAs, builtThen, readFrom, programFrom, verifyThen, verifiedThen, latchedThen, eraseUnit, eraseFrom, unprotectFirst, unprotectSecond, resumeTask, waitThen, identifiedThen, afterPhase, nextOf}
+use Rattle.nor_next.specs.Next.{byteOf, idOf, knownAs, builtThen, readFrom, programFrom, verifyThen, verifiedThen, latchedThen, eraseUnit, eraseFrom, unprotectFirst, unprotectSecond, resumeTask, waitThen, identifiedThen, afterPhase, nextOf}
 use Rattle.nor_runs.specs.Rust.{Nothing, busyValue, read-status1, read-status2, is-busy, wait-ready, write-enable, write-status1, write-status2, jedec-id, unique-id, quad-enabled, enable-quad, disable-quad, reading, read-back, page-program, writing, erase-unit, erasing, Unprotected, unprotect, quad-if, with-config}
 use Rattle.nor_driver.specs.Call.{freshSetup}
 use Rattle.nor_runs.specs.Program.{Left, leaving}
@@ -31,7 +31,7 @@ use Rattle.spi_nor.specs.declared.config.SpiNorConfig.{SpiNorConfig}
 use Rattle.nor_phases.specs.declared.phase.EraseKind.{EraseKind}
 use Rattle.nor_phases.specs.declared.phase.Phase.{Phase}
 use Rattle.nor_phases.specs.declared.phase.Task.{Task}
-use Rattle.nor_phases.specs.declared.setup.Answer.{Answer}
+use Rattle.nor_answers.specs.declared.answer.Answer.{Answer}
 use Rattle.nor_phases.specs.declared.setup.Setup.{Setup}
 use Rattle.spi_nor.specs.declared.opcode.Operation.{Operation}
 use Rattle.nor_runs.proofs.Places.{Place, place, decide, decideNext, Valid}

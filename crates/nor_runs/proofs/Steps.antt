@@ -14,7 +14,7 @@ use Rattle.spi_flash.specs.Loan.{Lent, readyFor}
 use Rattle.spi_flash.specs.Run as Run
 use Rattle.spi_flash.specs.declared.error.FlashError.{FlashError}
 use Rattle.spi_flash.proofs.Cases.{by-cases}
-use Rattle.nor_phases.specs.Next.{nextOf}
+use Rattle.nor_next.specs.Next.{nextOf}
 use Rattle.nor_driver.specs.Step.{movedTo, refusedOf, settledOf, gaveOf, afterwards, proceedOf}
 use Rattle.nor_driver.specs.declared.state.Job.{Job}
 use Rattle.nor_driver.specs.declared.state.SpiNorFlash.{SpiNorFlash}

@@ -24,7 +24,7 @@ use Rattle.spi_nor.specs.declared.opcode.Operation.{Operation}
 use Rattle.spi_nor.proofs.DeviceBounds.{deviceBounds}
 use Rattle.nor_phases.specs.Transfer.{placeOf, chunkOf, readAt, readTransfer, programAt, inRange, stepKind, afterUnit}
 use Rattle.nor_phases.proofs.Pieces.{chunk-within}
-use Rattle.nor_phases.specs.declared.setup.Answer.{Answer}
+use Rattle.nor_answers.specs.declared.answer.Answer.{Answer}
 use Rattle.nor_phases.specs.declared.phase.EraseKind.{EraseKind}
 use Rattle.nor_phases.specs.declared.setup.Setup.{Setup}
 use Rattle.nor_driver.specs.declared.state.Call.{Call}

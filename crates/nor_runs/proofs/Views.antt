@@ -28,14 +28,14 @@ use Rattle.nor_runs.specs.ProgramBounds.{Begins, judgedSetup}
 use Rattle.nor_runs.specs.Promises.{GivesAction, Begun}
 use Rattle.nor_runs.specs.SameAsRust.{Ready, Usable}
 use Rattle.nor_phases.specs.declared.phase.Phase.{Phase}
-use Rattle.nor_phases.specs.declared.setup.Answer.{Answer}
+use Rattle.nor_answers.specs.declared.answer.Answer.{Answer}
 use Rattle.nor_driver.specs.declared.state.Call.{Call}
 use Rattle.nor_driver.specs.declared.state.Given.{Given}
 use Rattle.nor_driver.specs.declared.state.Job.{Job}
 use Rattle.nor_driver.specs.declared.state.Running.{Running}
 use Rattle.nor_phases.specs.declared.setup.Setup.{Setup}
 use Rattle.nor_driver.specs.declared.state.SpiNorFlash.{SpiNorFlash}
-use Rattle.nor_phases.specs.declared.setup.Then.{Then}
+use Rattle.nor_next.specs.declared.then.Then.{Then}
 use Rattle.nor_runs.proofs.Places.{Place, place, decide, decideNext, Valid, Stays}
 use Rattle.nor_runs.proofs.Simulation.{meaning}
 use Rattle.nor_runs.proofs.Runs.{runs-same}

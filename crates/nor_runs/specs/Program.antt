@@ -2,7 +2,7 @@
 use Prim.Native.Nat.{ℕ}
 use Rattle.spi_flash.specs.Prog.{Prog, ret, _>>=_, _>>_}
 use Rattle.nor_runs.specs.Rust.{read-status1, read-status2, is-busy, jedec-id, unique-id, quad-enabled, enable-quad, disable-quad, read, write, erase-sector, erase-block, erase, Unprotected, unprotect, with-config, new}
-use Rattle.nor_phases.specs.declared.setup.Answer.{Answer}
+use Rattle.nor_answers.specs.declared.answer.Answer.{Answer}
 use Rattle.nor_driver.specs.declared.state.Call.{Call}
 use Rattle.nor_phases.specs.declared.setup.Setup.{Setup}
 

@@ -10,7 +10,7 @@ use Rattle.spi_flash.specs.Run as Run
 use Rattle.spi_flash.specs.Run.{System}
 use Rattle.spi_flash.specs.Error.{errorNumber, errorValues}
 use Rattle.spi_flash.specs.declared.loan.Takes.{Takes}
-use Rattle.nor_phases.specs.Answer.{answerValues}
+use Rattle.nor_answers.specs.Answer.{answerValues}
 use Rattle.nor_driver.specs.Answer.{Ending, goes, endsWith}
 use Rattle.nor_driver.specs.Step.{Moved, stepOf}
 use Rattle.nor_driver.specs.Call.{beginOf}

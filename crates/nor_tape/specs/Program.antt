@@ -22,7 +22,7 @@ unfoldable pub begunInput : List ℕ → ℕ → Replay
 begunInput input s =
     pick (leb (length input) 65536) (begunOver notBuilt Call.New input s s s) (replayAt (refusedOf notBuilt FlashError.MalformedTape) 0)
 
-abbrev pub overAt : Given → Bool
+unfoldable pub overAt : Given → Bool
 overAt (Given.Act action) = false
 overAt (Given.Ended answer) = true
 overAt (Given.Failed error) = true
@@ -32,7 +32,7 @@ unfoldable pub overOf : Replay → Bool
 overOf replay = overAt (replay .stepped .given)
 
 -- "one line an action", "then E and the number"
-abbrev pub lineAt : Given → List ℕ → List ℕ
+unfoldable pub lineAt : Given → List ℕ → List ℕ
 lineAt (Given.Act action) scratch = lineOf (shownOf action scratch scratch)
 lineAt (Given.Ended answer) scratch = endLine (endingNumber (Given.Ended answer))
 lineAt (Given.Failed error) scratch = endLine (endingNumber (Given.Failed error))

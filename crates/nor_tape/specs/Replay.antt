@@ -51,18 +51,30 @@ playedAt at m = playedTo (replayAt (m .stepped) at) (m .scratch) (m .buffer)
 unfoldable pub plainOver : SpiNorFlash → ℕ → List ℕ → List ℕ → List ℕ → Played
 plainOver flash at scratch buffer lent = playedAt at (stepOf flash Reply.Done [] scratch buffer lent)
 
+abbrev pub spentOf : Record → Bool
+spentOf Record.Done = false
+spentOf (Record.Data from len) = false
+spentOf (Record.BusError code) = false
+spentOf Record.Spent = true
+
+-- the reply that a record holds; without one there is none to give
+abbrev pub replyOf : Record → Reply
+replyOf Record.Done = Reply.Done
+replyOf (Record.Data from len) = Reply.Data
+replyOf (Record.BusError code) = Reply.Error code
+replyOf Record.Spent = Reply.Done
+
 -- a bus action is answered by the record; with none left it is 16, "call unfinished"
 abbrev pub recordThen : Record → SpiNorFlash → ℕ → List ℕ → List ℕ → List ℕ → List ℕ → Played
-recordThen Record.Done flash at bytes scratch buffer lent = playedAt at (stepOf flash Reply.Done bytes scratch buffer lent)
-recordThen (Record.Data from len) flash at bytes scratch buffer lent = playedAt at (stepOf flash Reply.Data bytes scratch buffer lent)
-recordThen (Record.BusError code) flash at bytes scratch buffer lent = playedAt at (stepOf flash (Reply.Error code) bytes scratch buffer lent)
-recordThen Record.Spent flash at bytes scratch buffer lent = playedAt at (movedTo (refusedOf flash FlashError.TapeSpent) scratch buffer)
+recordThen x flash at bytes scratch buffer lent =
+    pick (spentOf x) (playedAt at (movedTo (refusedOf flash FlashError.TapeSpent) scratch buffer))
+    (playedAt at (stepOf flash (replyOf x) bytes scratch buffer lent))
 
 unfoldable pub recordOver : SpiNorFlash → ℕ → List ℕ → List ℕ → List ℕ → List ℕ → Played
 recordOver flash at tape scratch buffer lent =
     recordThen (takenAt tape at .given) flash (takenAt tape at .next) (dataOf tape (takenAt tape at .given)) scratch buffer lent
 
-abbrev pub advancedThen : Given → Replay → List ℕ → List ℕ → List ℕ → List ℕ → Played
+unfoldable pub advancedThen : Given → Replay → List ℕ → List ℕ → List ℕ → List ℕ → Played
 advancedThen (Given.Act action) replay tape scratch buffer lent =
     pick (onBus action) (recordOver (replay .stepped .flash) (replay .at) tape scratch buffer lent)
     (plainOver (replay .stepped .flash) (replay .at) scratch buffer lent)

@@ -43,9 +43,7 @@ pub fn over(replay: Replay) -> bool
     let given = stepped.given;
     match given {
         Given::Act(_) => false,
-        Given::Ended(_) => true,
-        Given::Failed(_) => true,
-        Given::Refused(_) => true,
+        _ => true,
     }
 }
 
@@ -57,8 +55,6 @@ pub fn line(replay: Replay, scratch: &[u8], out: &mut [u8]) -> usize
     let given = stepped.given;
     match given {
         Given::Act(action) => line::action(out, 0, action, scratch, scratch),
-        Given::Ended(_) => line::end(out, 0, given.number()),
-        Given::Failed(_) => line::end(out, 0, given.number()),
-        Given::Refused(_) => line::end(out, 0, given.number()),
+        _ => line::end(out, 0, given.number()),
     }
 }

@@ -6,14 +6,14 @@ use nor_driver::state::Stepped;
 use nor_driver::step;
 use qspi::bus::Action;
 use qspi::bus::Reply;
-use qspi::bytes;
 use spi_flash::error::FlashError;
 use tape::judge;
 use tape::reader;
+use tape::record;
 use tape::record::Record;
 ghost use mathlib.Core.Path.{_≡_};
 ghost use lib.ListN.{length};
-ghost use Rattle.nor_tape.specs.Replay.{onBus, replayAt, begunOver, playedTo, plainOver, recordOver, advancedOver};
+ghost use Rattle.nor_tape.specs.Replay.{onBus, replayAt, begunOver, playedTo, plainOver, spentOf, replyOf, recordOver, advancedOver};
 
 // The driver with what it gave last, and the position of the reader's next record.
 pub struct Replay {
@@ -85,6 +85,30 @@ fn plain(
     replay_at(stepped, at)
 }
 
+// Whether no record was left.
+fn spent(given: Record) -> bool
+    ensures { λ r. ⌜ r ≡ spentOf given ⌝ }
+{
+    match given {
+        Record::Done => false,
+        Record::Data { from: _, len: _ } => false,
+        Record::BusError(_) => false,
+        Record::Spent => true,
+    }
+}
+
+// The reply that a record holds. Where there is none, no reply is given.
+fn reply_of(given: Record) -> Reply
+    ensures { λ r. ⌜ r ≡ replyOf given ⌝ }
+{
+    match given {
+        Record::Done => Reply::Done,
+        Record::Data { from: _, len: _ } => Reply::Data,
+        Record::BusError(code) => Reply::Error(code),
+        Record::Spent => Reply::Done,
+    }
+}
+
 // The reply in the record at the reader's position. Where there is none, the call stays unfinished.
 fn recorded(
     flash: SpiNorFlash,
@@ -99,29 +123,18 @@ fn recorded(
     let taken = reader::next_at(tape, at);
     let given = taken.given;
     let next = taken.next;
-    let nothing = [0u8; 0];
-    match given {
-        Record::Done => replay_at(
-            step::step(flash, Reply::Done, &nothing, scratch, buffer, data),
-            next,
-        ),
-        Record::Data { from, len } => replay_at(
-            step::step(
-                flash,
-                Reply::Data,
-                bytes::part(tape, from, len),
-                scratch,
-                buffer,
-                data,
-            ),
-            next,
-        ),
-        Record::BusError(code) => replay_at(
-            step::step(flash, Reply::Error(code), &nothing, scratch, buffer, data),
-            next,
-        ),
-        Record::Spent => replay_at(step::refused(flash, FlashError::TapeSpent), next),
+    if spent(given) {
+        return replay_at(step::refused(flash, FlashError::TapeSpent), next);
     }
+    let stepped = step::step(
+        flash,
+        reply_of(given),
+        record::data(tape, given),
+        scratch,
+        buffer,
+        data,
+    );
+    replay_at(stepped, next)
 }
 
 // Performs the action that is out. A replay that has come to an end stays as it is.
@@ -145,8 +158,6 @@ pub fn advance(
                 plain(flash, replay.at, scratch, buffer, data)
             }
         }
-        Given::Ended(_) => replay,
-        Given::Failed(_) => replay,
-        Given::Refused(_) => replay,
+        _ => replay,
     }
 }

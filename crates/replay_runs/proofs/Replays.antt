@@ -23,7 +23,7 @@ use Rattle.nor_runs.specs.Run.{givenAs, nor}
 use Rattle.nor_driver.specs.Step.{stepOf}
 use Rattle.nor_driver.specs.declared.state.Given.{Given}
 use Rattle.nor_driver.specs.declared.state.SpiNorFlash.{SpiNorFlash}
-use Rattle.nor_tape.specs.Replay.{onBus, replayAt, begunOver, playedAt, plainOver, recordThen, recordOver, advancedOver}
+use Rattle.nor_tape.specs.Replay.{onBus, replayAt, begunOver, playedAt, plainOver, recordThen, recordOver, advancedThen, advancedOver}
 use Rattle.nor_tape.specs.declared.replay.Replay.{Replay}
 use Rattle.replay_runs.specs.Replays.{playedThen, playing, usesRecord, AnsweredAs, Answered, listing, Replays, ReplayRuns}
 
@@ -95,7 +95,7 @@ module _ (tape : List ℕ) where
     }
 
   plays : (ls : List Lent) → Plays ls
-  unfolding playing advancedOver plainOver recordOver
+  unfolding playing advancedOver advancedThen plainOver recordOver
   plays [] flash given at s g = nothing
   plays (l ∷ ls) flash (Given.Act action) at s g =
       by-cases (onBus action)

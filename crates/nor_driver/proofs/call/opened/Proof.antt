@@ -1,25 +1,18 @@
-use Rattle.nor_driver.specs.Call.{openedOf}
+use Prim.Native.Nat.{ℕ}
+use mathlib.Core.List.{[], _∷_}
+use mathlib.Core.Path.{_≡_, refl}
+use types.Run.{OneOf, miss}
+use denote.Enum.Declared.{tagOf}
+use Rattle.nor_driver.specs.Call.{freshCall, openedOf}
 use borrow.Author.Needs.{needs}
 use Rattle.nor_driver.proofs.call.opened.Statement.{statement}
 use Rattle.nor_driver.proofs.call.opened.Tie as tie
-
-enum-told : tie.Need-enum-told
-enum-told c = search needs
-
-flash-of-requires : tie.Need-flash-of-requires
-flash-of-requires c κs = search needs
-
-settle-requires : tie.Need-settle-requires
-settle-requires c κs = search needs
-
-enum-told-2 : tie.Need-enum-told-2
-enum-told-2 c = search needs
-
-flash-of-requires-2 : tie.Need-flash-of-requires-2
-flash-of-requires-2 c κs = search needs
-
-settle-requires-2 : tie.Need-settle-requires-2
-settle-requires-2 c κs = search needs
+use Rattle.nor_driver.specs.Step.{settledOf}
+use Rattle.nor_driver.specs.declared.state.SpiNorFlash.{SpiNorFlash}
+use Rattle.nor_driver.specs.declared.state.Stepped.{Stepped}
+use Rattle.spi_flash.specs.declared.loan.Takes.{Takes}
+use Rattle.nor_next.specs.declared.then.Then.{Then}
+use Rattle.nor_next.proofs.then.Then as T
 
 enum-known-then : tie.Need-enum-known-then
 enum-known-then c = search needs
@@ -27,34 +20,27 @@ enum-known-then c = search needs
 refused-requires : tie.Need-refused-requires
 refused-requires c κs = search needs
 
+flash-of-requires : tie.Need-flash-of-requires
+flash-of-requires c κs = search needs
+
+settle-requires : tie.Need-settle-requires
+settle-requires c κs = search needs
+
+-- what is not refused is settled
+goes-on : (flash : SpiNorFlash) (takes : Takes) (then : Then) (r : Stepped) → OneOf (0 ∷ 1 ∷ []) (tagOf T.the-type then) → r ≡ settledOf (freshCall flash) takes then → r ≡ openedOf flash takes then
+unfolding openedOf
+goes-on flash takes (Then.Go setup transfer phase) r one e = e
+goes-on flash takes (Then.End setup answer) r one e = e
+goes-on flash takes (Then.Fail error) r one e = absurd (miss (0 ∷ 1 ∷ []) 2 tt one)
+
 returns : tie.Need-returns
 unfolding openedOf
-returns c =
-    simp (c .before .before .enum-told .given .1)
-    (simp (c .before .before .enum-told .given .1, c .before .flash-of .ensures) at (c .settle .ensures))
+returns c = simp (c .before .before .then .given .1, ← c .refused .ensures)
 
 returns-2 : tie.Need-returns-2
-unfolding openedOf
 returns-2 c =
-    simp (c .before .before .enum-told2 .given .1)
-    (simp (c .before .before .enum-told2 .given .1, c .before .flash-of2 .ensures) at (c .settle2 .ensures))
-
-returns-3 : tie.Need-returns-3
-unfolding openedOf
-returns-3 c = simp (c .before .before .then .given .1, ← c .refused .ensures)
+    goes-on _ _ _ _ (c .before .before .match .keys2) (simp (← c .before .flash-of .ensures) (c .settle .ensures))
 
 pub opened-spec : {M : Type 1} → statement M
 opened-spec =
-    tie.close
-    (tie.spec
-    enum-told
-    flash-of-requires
-    settle-requires
-    enum-told-2
-    flash-of-requires-2
-    settle-requires-2
-    enum-known-then
-    refused-requires
-    returns
-    returns-2
-    returns-3)
+    tie.close (tie.spec enum-known-then refused-requires flash-of-requires settle-requires returns returns-2)

@@ -1,37 +1,34 @@
-use Rattle.nor_tape.specs.Program.{overOf}
+use Prim.Native.Nat.{ℕ}
+use mathlib.Core.Bool.{Bool, true}
+use mathlib.Core.List.{List, [], _∷_}
+use mathlib.Core.Path.{_≡_, refl}
+use types.Run.{OneOf, miss}
+use denote.Enum.Declared.{tagOf}
 use borrow.Author.Needs.{needs}
 use Rattle.nor_tape.proofs.program.over.Statement.{statement}
 use Rattle.nor_tape.proofs.program.over.Tie as tie
+use Rattle.nor_driver.specs.declared.state.Given.{Given}
+use Rattle.nor_driver.proofs.state.Given as G
+use Rattle.nor_tape.specs.Program.{overAt, overOf}
 
 enum-told : tie.Need-enum-told
 enum-told c = search needs
 
-enum-told-2 : tie.Need-enum-told-2
-enum-told-2 c = search needs
-
-enum-told-3 : tie.Need-enum-told-3
-enum-told-3 c = search needs
-
-enum-told-4 : tie.Need-enum-told-4
-enum-told-4 c = search needs
+-- every other answer is an end
+ended : (given : Given) (r : Bool) → OneOf (1 ∷ 2 ∷ 3 ∷ []) (tagOf G.the-type given) → r ≡ true → r ≡ overAt given
+unfolding overAt
+ended (Given.Act action) r one e = absurd (miss (1 ∷ 2 ∷ 3 ∷ []) 0 tt one)
+ended (Given.Ended answer) r one e = e
+ended (Given.Failed error) r one e = e
+ended (Given.Refused error) r one e = e
 
 returns : tie.Need-returns
-unfolding overOf
+unfolding overOf overAt
 returns c = simp (c .enum-told .given .1)
 
 returns-2 : tie.Need-returns-2
 unfolding overOf
-returns-2 c = simp (c .enum-told2 .given .1)
-
-returns-3 : tie.Need-returns-3
-unfolding overOf
-returns-3 c = simp (c .enum-told3 .given .1)
-
-returns-4 : tie.Need-returns-4
-unfolding overOf
-returns-4 c = simp (c .enum-told4 .given .1)
+returns-2 c = ended _ _ (c .match .keys2) refl
 
 pub over-spec : {M : Type 1} → statement M
-over-spec =
-    tie.close
-    (tie.spec enum-told enum-told-2 enum-told-3 enum-told-4 returns returns-2 returns-3 returns-4)
+over-spec = tie.close (tie.spec enum-told returns returns-2)

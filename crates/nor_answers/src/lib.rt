@@ -1,0 +1,2 @@
+// What a call of SpiNorFlash answers, and its values as numbers.
+pub mod answer;
