@@ -4,11 +4,11 @@ use mathlib.Core.Bool.{Bool, true, false}
 use mathlib.Core.List.{List}
 use lib.ListN.{length, take}
 use Rattle.qspi.specs.Choice.{pick}
-use Rattle.qspi.specs.Frame.{AfterExchange, firstOf, actionOf, exchangeOf, deliveredBy}
+use Rattle.frames.specs.Frame.{AfterExchange, firstOf, actionOf, exchangeOf, deliveredBy}
 use Rattle.qspi.specs.declared.bus.Action.{Action}
 use Rattle.qspi.specs.declared.bus.Reply.{Reply}
-use Rattle.qspi.specs.declared.frame.Exchanged.{Exchanged}
-use Rattle.qspi.specs.declared.frame.Frame.{Frame}
+use Rattle.frames.specs.declared.frame.Exchanged.{Exchanged}
+use Rattle.frames.specs.declared.frame.Frame.{Frame}
 use Rattle.spi_flash.specs.Loan.{readyOf}
 use Rattle.spi_flash.specs.declared.error.FlashError.{FlashError}
 use Rattle.spi_flash.specs.declared.loan.Takes.{Takes}

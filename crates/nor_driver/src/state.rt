@@ -1,9 +1,9 @@
 // The driver's state, its calls and what a step gives.
+use frames::frame::Frame;
 use nor_answers::answer::Answer;
 use nor_phases::phase::Phase;
 use nor_phases::setup::Setup;
 use qspi::bus::Action;
-use qspi::frame::Frame;
 use spi_flash::error::FlashError;
 use spi_flash::loan::Takes;
 use spi_nor::config::SpiNorConfig;

@@ -1,12 +1,12 @@
 // What follows each transfer: the Rust's calls, cut where they use the bus.
 use crate::then::Then;
+use frames::frame::Outcome;
 use nor_answers::answer::Answer;
 use nor_phases::phase::EraseKind;
 use nor_phases::phase::Phase;
 use nor_phases::phase::Task;
 use nor_phases::setup::Setup;
 use nor_phases::transfer;
-use qspi::frame::Outcome;
 use qspi::transfer::Sink;
 use qspi::transfer::Transfer;
 use spi_flash::error::FlashError;

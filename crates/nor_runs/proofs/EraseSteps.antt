@@ -7,7 +7,7 @@ use mathlib.Core.Path.{_≡_, refl}
 use lib.Dec.{leb}
 use borrow.Author.Tests.{leb-true, le-leb, eq-eqb}
 use Rattle.qspi.specs.Choice.{pick}
-use Rattle.spi_flash.proofs.Cases.{by-order}
+use Rattle.qspi.proofs.Cases.{by-order}
 use Rattle.spi_nor.specs.Config.{inBoundsOf}
 use Rattle.nor_phases.specs.Transfer.{inRange, multipleOf, unitSize, stepKind}
 use Rattle.spi_nor.specs.declared.config.NorDeviceInfo.{NorDeviceInfo}

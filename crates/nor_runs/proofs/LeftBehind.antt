@@ -8,8 +8,8 @@ use mathlib.Core.List.{List, [], _∷_}
 use lib.ListN.{length}
 use Rattle.qspi.specs.Choice.{pick}
 use Rattle.qspi.specs.Command.{scratchLeast}
-use Rattle.qspi.specs.Frame.{firstOf}
-use Rattle.qspi.specs.declared.frame.Outcome.{Outcome}
+use Rattle.frames.specs.Frame.{firstOf}
+use Rattle.frames.specs.declared.frame.Outcome.{Outcome}
 use Rattle.spi_flash.specs.Loan.{Lent}
 use Rattle.spi_flash.specs.Run as Run
 use Rattle.spi_flash.specs.Run.{Event, reply, call, goesOn, atOnce, callOf, stateAfter}

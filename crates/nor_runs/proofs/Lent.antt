@@ -6,10 +6,10 @@ use mathlib.Core.Logic.{⊎-elim}
 use mathlib.Core.Path.{_≡_, refl, ap, sym, _∙_, subst}
 use mathlib.Core.List.{List, []}
 use lib.ListN.{length, take}
-use Rattle.qspi.specs.Frame.{firstOf, actionOf}
+use Rattle.frames.specs.Frame.{firstOf, actionOf}
 use Rattle.qspi.specs.Shown.{shownOf}
-use Rattle.qspi.specs.declared.frame.Outcome.{Outcome}
-use Rattle.qspi.specs.declared.frame.Stage.{Stage}
+use Rattle.frames.specs.declared.frame.Outcome.{Outcome}
+use Rattle.frames.specs.declared.frame.Stage.{Stage}
 use Rattle.spi_flash.specs.Loan.{Lent}
 use Rattle.spi_flash.specs.Path.{Bounded}
 use Rattle.spi_flash.specs.Prog.{ask}

@@ -7,7 +7,7 @@ use lib.ListN.{length}
 use lib.Dec.{ltb}
 use borrow.Author.Tests.{le-ltb}
 use Rattle.qspi.specs.Choice.{pick}
-use Rattle.qspi.specs.ShownBytes.{startShown}
+use Rattle.frames.specs.ShownBytes.{startShown}
 use Rattle.qspi.specs.declared.transfer.Sink.{Sink}
 use Rattle.qspi.specs.declared.transfer.Transfer.{Transfer}
 use Rattle.spi_flash.specs.Loan.{Lent}
@@ -16,7 +16,7 @@ use Rattle.spi_flash.specs.Machine.{tree}
 use Rattle.spi_flash.specs.Seen.{selectAfter}
 use Rattle.spi_flash.specs.declared.error.FlashError.{FlashError}
 use Rattle.spi_flash.specs.declared.loan.Takes.{Takes}
-use Rattle.spi_flash.proofs.Cases.{by-cases}
+use Rattle.qspi.proofs.Cases.{by-cases}
 use Rattle.spi_nor.specs.Config.{inBoundsOf, singleConfig}
 use Rattle.spi_nor.specs.Command.{readIdCommand, readUniqueIdCommand}
 use Rattle.spi_nor.specs.declared.config.QuadSetting.{QuadSetting}

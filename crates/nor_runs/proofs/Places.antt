@@ -1,7 +1,7 @@
 -- Where a call stands, and what the code decides there.
 use mathlib.Core.Bool.{true}
 use mathlib.Core.Path.{_≡_}
-use Rattle.qspi.specs.declared.frame.Outcome.{Outcome}
+use Rattle.frames.specs.declared.frame.Outcome.{Outcome}
 use Rattle.spi_flash.specs.Machine.{Decision, more, well, bad}
 use Rattle.nor_next.specs.Next.{nextOf}
 use Rattle.nor_runs.specs.Program.{Left, leaving}

@@ -7,12 +7,12 @@ use mathlib.Core.Path.{_≡_, ap, _∙_, subst}
 use mathlib.Core.List.{List, [], _∷_}
 use lib.ListN.{length}
 use Rattle.qspi.specs.Bytes.{AllBytes}
-use Rattle.qspi.specs.Frame.{firstOf}
+use Rattle.frames.specs.Frame.{firstOf}
 use Rattle.spi_flash.specs.Loan.{Lent}
 use Rattle.spi_flash.specs.Prog.{ask}
-use Rattle.qspi.specs.Frame.{exchangeOf}
-use Rattle.qspi.specs.declared.frame.Exchanged.{Exchanged}
-use Rattle.qspi.specs.declared.frame.Frame.{Frame}
+use Rattle.frames.specs.Frame.{exchangeOf}
+use Rattle.frames.specs.declared.frame.Exchanged.{Exchanged}
+use Rattle.frames.specs.declared.frame.Frame.{Frame}
 use Rattle.spi_flash.specs.Path.{Past, End, going, done, failed, spent, delays, actions, asked, Well, Bounded, Reaches, Ends}
 use Rattle.spi_flash.specs.Run as Run
 use Rattle.spi_flash.specs.declared.loan.Takes.{Takes}

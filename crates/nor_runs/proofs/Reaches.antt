@@ -15,7 +15,7 @@ use Rattle.spi_flash.specs.declared.error.FlashError.{FlashError}
 use Rattle.spi_flash.specs.Prog.{Prog, ret, _>>=_, _>>_, if_then_else_, refuse, transfer}
 use Rattle.qspi.specs.Bytes.{AllBytes}
 use Rattle.spi_flash.specs.Path.{Answers, delays, Reaches, Ends}
-use Rattle.spi_flash.proofs.Cases.{by-cases}
+use Rattle.qspi.proofs.Cases.{by-cases}
 use Rattle.spi_flash.proofs.Laws.{ends-ret, ends-bind, ends-then, ends-eq, ends-transfer, ends-refuse, ends-reaches}
 use Rattle.spi_nor.specs.Opcode.{MAX-BULK-LEN}
 use Rattle.spi_nor.specs.Status.{busyOf, writeEnabledOf, quadEnabled1Of, quadEnabled2Of, unprotected1Of, unprotected2Of}

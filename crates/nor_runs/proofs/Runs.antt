@@ -5,16 +5,16 @@ use mathlib.Core.Path.{_≡_, refl, ap, ap₂, _∙_}
 use mathlib.Core.List.{List, [], _∷_}
 use lib.ListN.{length}
 use Rattle.qspi.specs.Bus.{fitsOf}
-use Rattle.qspi.specs.Frame.{actionOf, exchangeOf, advancedOf, takenIn, gave, deliveredBy}
+use Rattle.frames.specs.Frame.{actionOf, exchangeOf, advancedOf, takenIn, gave, deliveredBy}
 use Rattle.qspi.specs.declared.bus.Reply.{Reply}
-use Rattle.qspi.specs.declared.frame.Advanced.{Advanced}
-use Rattle.qspi.specs.declared.frame.Frame.{Frame}
+use Rattle.frames.specs.declared.frame.Advanced.{Advanced}
+use Rattle.frames.specs.declared.frame.Frame.{Frame}
 use Rattle.spi_flash.specs.Loan.{Lent, readyFor}
 use Rattle.spi_flash.specs.Run as Run
 use Rattle.spi_flash.specs.Run.{Event, reply, call, entry, goesOn}
 use Rattle.spi_flash.specs.Machine.{Config, out, rest, lentAs, settle, moved, answered, machine}
 use Rattle.spi_flash.specs.declared.loan.Takes.{Takes}
-use Rattle.spi_flash.proofs.Cases.{by-cases}
+use Rattle.qspi.proofs.Cases.{by-cases}
 use Rattle.nor_driver.specs.Step.{flashOf, settledOf, afterwards, proceedOf, stepOf}
 use Rattle.nor_next.specs.Next.{nextOf}
 use Rattle.nor_driver.specs.Call.{beginOf}

@@ -12,7 +12,7 @@ use Rattle.spi_flash.specs.WaitLaw.{waiting, promptWait}
 use Rattle.spi_flash.specs.Machine.{more, tree, Simulates}
 use Rattle.spi_flash.specs.declared.error.FlashError.{FlashError}
 use Rattle.spi_flash.specs.declared.wait.Wait.{Wait}
-use Rattle.spi_flash.proofs.Cases.{by-cases}
+use Rattle.qspi.proofs.Cases.{by-cases}
 use Rattle.spi_flash.proofs.Waiting.{wait-in-general}
 use Rattle.spi_nor.specs.Opcode.{timingsOf}
 use Rattle.spi_nor.specs.Status.{busyOf, writeEnabledOf, quadEnabled1Of, quadEnabled2Of, withQuad1Of, withQuad2Of, withoutQuad1Of, withoutQuad2Of, unprotected1Of, unprotected2Of}

@@ -5,15 +5,15 @@ use mathlib.Core.Path.{_≡_, refl}
 use mathlib.Core.List.{List}
 use lib.ListN.{length}
 use Rattle.qspi.specs.Bus.{fitsOf}
-use Rattle.qspi.specs.Frame.{actionOf, exchangeOf, advancedOf, takenIn, gave, deliveredBy}
+use Rattle.frames.specs.Frame.{actionOf, exchangeOf, advancedOf, takenIn, gave, deliveredBy}
 use Rattle.qspi.specs.declared.bus.Reply.{Reply}
-use Rattle.qspi.specs.declared.frame.Advanced.{Advanced}
-use Rattle.qspi.specs.declared.frame.Frame.{Frame}
-use Rattle.qspi.specs.declared.frame.Outcome.{Outcome}
+use Rattle.frames.specs.declared.frame.Advanced.{Advanced}
+use Rattle.frames.specs.declared.frame.Frame.{Frame}
+use Rattle.frames.specs.declared.frame.Outcome.{Outcome}
 use Rattle.spi_flash.specs.Loan.{Lent, readyFor}
 use Rattle.spi_flash.specs.Run as Run
 use Rattle.spi_flash.specs.declared.error.FlashError.{FlashError}
-use Rattle.spi_flash.proofs.Cases.{by-cases}
+use Rattle.qspi.proofs.Cases.{by-cases}
 use Rattle.nor_next.specs.Next.{nextOf}
 use Rattle.nor_driver.specs.Step.{movedTo, refusedOf, settledOf, gaveOf, afterwards, proceedOf}
 use Rattle.nor_driver.specs.declared.state.Job.{Job}

@@ -10,7 +10,7 @@ use Rattle.qspi.specs.declared.transfer.Sink.{Sink}
 use Rattle.spi_flash.specs.Loan.{Lent}
 use Rattle.spi_flash.specs.Prog.{ret, _>>=_, _>>_, refuse, transfer}
 use Rattle.spi_flash.specs.Path.{Bounded}
-use Rattle.spi_flash.proofs.Cases.{by-cases}
+use Rattle.qspi.proofs.Cases.{by-cases}
 use Rattle.spi_flash.proofs.Filling.{Fills}
 use Rattle.spi_flash.proofs.Laws.{bounded-more, bounded-ret}
 use Rattle.spi_flash.proofs.Unread.{bufferReads, unread-wait}

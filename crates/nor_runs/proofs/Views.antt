@@ -8,7 +8,7 @@ use mathlib.Core.List.{List, [], _∷_}
 use lib.ListN.{length}
 use lib.Dec.{ltb}
 use borrow.Author.Tests.{le-ltb}
-use Rattle.qspi.specs.Frame.{firstOf}
+use Rattle.frames.specs.Frame.{firstOf}
 use Rattle.qspi.specs.Command.{scratchLeast}
 use Rattle.qspi.specs.declared.transfer.Transfer.{Transfer}
 use Rattle.spi_flash.specs.Loan.{Lent}
@@ -18,7 +18,7 @@ use Rattle.spi_flash.specs.Run.{Event, call, entry, goesOn, begunWith, runOf, o
 use Rattle.spi_flash.specs.Machine.{more, out, settle, machine, tree}
 use Rattle.spi_flash.specs.declared.error.FlashError.{FlashError}
 use Rattle.spi_flash.specs.declared.loan.Takes.{Takes}
-use Rattle.spi_flash.proofs.Cases.{by-cases}
+use Rattle.qspi.proofs.Cases.{by-cases}
 use Rattle.spi_nor.specs.Config.{inBoundsOf}
 use Rattle.nor_driver.specs.Step.{flashOf, refusedOf, settledOf}
 use Rattle.nor_driver.specs.Call.{givenDevice, freshSetup, constructedOf, toldOf, freedOf, openedOf, begunOf, beginOf}

@@ -2,8 +2,8 @@
 use Prim.Native.Nat.{ℕ}
 use mathlib.Core.Bool.{Bool, true, false}
 use mathlib.Core.List.{List, []}
+use Rattle.qspi.specs.Bus.{onBus}
 use Rattle.qspi.specs.Choice.{pick}
-use Rattle.qspi.specs.declared.bus.Action.{Action}
 use Rattle.qspi.specs.declared.bus.Reply.{Reply}
 use Rattle.spi_flash.specs.declared.error.FlashError.{FlashError}
 use Rattle.nor_driver.specs.Step.{Moved, movedTo, refusedOf, stepOf}
@@ -16,16 +16,6 @@ use Rattle.tape.specs.Judge.{acceptedOf, firstOf}
 use Rattle.tape.specs.Record.{takenAt, dataOf}
 use Rattle.tape.specs.declared.record.Record.{Record}
 use Rattle.nor_tape.specs.declared.replay.Replay.{Replay}
-
--- "Only bus actions use a record"
-abbrev pub onBus : Action → Bool
-onBus Action.SelectLow = false
-onBus Action.SelectHigh = false
-onBus (Action.Write part) = true
-onBus (Action.Read n) = true
-onBus (Action.QuadRead command tclqv margin n) = true
-onBus (Action.QuadWrite command payload) = true
-onBus (Action.Delay us) = false
 
 abbrev pub replayAt : Stepped → ℕ → Replay
 replayAt stepped at = record { stepped = stepped; at = at }

@@ -4,7 +4,7 @@ use nor_driver::state::Given;
 use nor_driver::state::SpiNorFlash;
 use nor_driver::state::Stepped;
 use nor_driver::step;
-use qspi::bus::Action;
+use qspi::bus;
 use qspi::bus::Reply;
 use spi_flash::error::FlashError;
 use tape::judge;
@@ -13,35 +13,12 @@ use tape::record;
 use tape::record::Record;
 ghost use mathlib.Core.Path.{_≡_};
 ghost use lib.ListN.{length};
-ghost use Rattle.nor_tape.specs.Replay.{onBus, replayAt, begunOver, playedTo, plainOver, spentOf, replyOf, recordOver, advancedOver};
+ghost use Rattle.nor_tape.specs.Replay.{replayAt, begunOver, playedTo, plainOver, spentOf, replyOf, recordOver, advancedOver};
 
 // The driver with what it gave last, and the position of the reader's next record.
 pub struct Replay {
     pub stepped: Stepped,
     pub at: usize,
-}
-
-// Only bus actions use a record.
-pub fn on_bus(action: Action) -> bool
-    ensures { λ r. ⌜ r ≡ onBus action ⌝ }
-{
-    match action {
-        Action::SelectLow => false,
-        Action::SelectHigh => false,
-        Action::Write(_) => true,
-        Action::Read(_) => true,
-        Action::QuadRead {
-            command: _,
-            tclqv_ns: _,
-            margin: _,
-            len: _,
-        } => true,
-        Action::QuadWrite {
-            command: _,
-            payload: _,
-        } => true,
-        Action::Delay(_) => false,
-    }
 }
 
 pub fn replay_at(stepped: Stepped, at: usize) -> Replay
@@ -152,7 +129,7 @@ pub fn advance(
     let flash = stepped.flash;
     match given {
         Given::Act(action) => {
-            if on_bus(action) {
+            if bus::on_bus(action) {
                 recorded(flash, replay.at, tape, scratch, buffer, data)
             } else {
                 plain(flash, replay.at, scratch, buffer, data)

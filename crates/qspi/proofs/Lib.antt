@@ -2,4 +2,4 @@ pub mod Tests
 pub mod Filler
 pub mod Addresses
 pub mod Numbers
-pub mod Sent
+pub mod Cases

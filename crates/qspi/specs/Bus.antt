@@ -30,3 +30,13 @@ fitsAt (Awaits.BytesOrError m) (Reply.Error code) n = true
 -- whether a reply with n bytes answers an action
 unfoldable pub fitsOf : Action → Reply → ℕ → Bool
 fitsOf action reply n = fitsAt (awaitsOf action) reply n
+
+-- "Only bus actions use a record; select and delay are answered done"
+abbrev pub onBus : Action → Bool
+onBus Action.SelectLow = false
+onBus Action.SelectHigh = false
+onBus (Action.Write part) = true
+onBus (Action.Read n) = true
+onBus (Action.QuadRead command tclqv margin n) = true
+onBus (Action.QuadWrite command payload) = true
+onBus (Action.Delay us) = false

@@ -5,5 +5,3 @@ pub mod Address
 pub mod Bytes
 pub mod Numbers
 pub mod Shown
-pub mod Frame
-pub mod ShownBytes

@@ -1,6 +1,6 @@
 // What a driver gives out and what the host hands back: in place of the Rust's trait QuadSpiBus (qspi/bus.rs).
 ghost use mathlib.Core.Path.{_≡_};
-ghost use Rattle.qspi.specs.Bus.{awaitsOf, fitsOf};
+ghost use Rattle.qspi.specs.Bus.{awaitsOf, fitsOf, onBus};
 
 // The bytes of an action: a part of the scratch or of the caller's data.
 pub enum Part {
@@ -82,5 +82,28 @@ pub fn fits(action: Action, reply: Reply, n: usize) -> bool
             Reply::Data => n == m,
             Reply::Error(_) => true,
         },
+    }
+}
+
+// Whether the bus answers the action, with a reply of its own: select and delay are the host's.
+pub fn on_bus(action: Action) -> bool
+    ensures { λ r. ⌜ r ≡ onBus action ⌝ }
+{
+    match action {
+        Action::SelectLow => false,
+        Action::SelectHigh => false,
+        Action::Write(_) => true,
+        Action::Read(_) => true,
+        Action::QuadRead {
+            command: _,
+            tclqv_ns: _,
+            margin: _,
+            len: _,
+        } => true,
+        Action::QuadWrite {
+            command: _,
+            payload: _,
+        } => true,
+        Action::Delay(_) => false,
     }
 }

@@ -3,6 +3,7 @@ use Prim.Native.Nat.{ℕ}
 use mathlib.Core.Bool.{true}
 use mathlib.Core.Path.{_≡_, refl, ap}
 use mathlib.Core.List.{List, [], _∷_}
+use Rattle.qspi.specs.Bus.{onBus}
 use Rattle.qspi.specs.Shown.{shownOf}
 use Rattle.qspi.specs.declared.bus.Action.{Action}
 use Rattle.qspi.specs.declared.bus.Reply.{Reply}
@@ -11,7 +12,7 @@ use Rattle.spi_flash.specs.Run as Run
 use Rattle.spi_flash.specs.Run.{reply, goesOn}
 use Rattle.spi_flash.specs.Seen.{Did, did}
 use Rattle.spi_flash.specs.declared.error.FlashError.{FlashError}
-use Rattle.spi_flash.proofs.Cases.{by-cases}
+use Rattle.qspi.proofs.Cases.{by-cases}
 use Rattle.tape.specs.Tape.{TapeRecord}
 use Rattle.tape.specs.Judge.{firstOf}
 use Rattle.tape.specs.Record.{takenAt, dataOf}
@@ -23,7 +24,7 @@ use Rattle.nor_runs.specs.Run.{givenAs, nor}
 use Rattle.nor_driver.specs.Step.{stepOf}
 use Rattle.nor_driver.specs.declared.state.Given.{Given}
 use Rattle.nor_driver.specs.declared.state.SpiNorFlash.{SpiNorFlash}
-use Rattle.nor_tape.specs.Replay.{onBus, replayAt, begunOver, playedAt, plainOver, recordThen, recordOver, advancedThen, advancedOver}
+use Rattle.nor_tape.specs.Replay.{replayAt, begunOver, playedAt, plainOver, recordThen, recordOver, advancedThen, advancedOver}
 use Rattle.nor_tape.specs.declared.replay.Replay.{Replay}
 use Rattle.replay_runs.specs.Replays.{playedThen, playing, usesRecord, AnsweredAs, Answered, listing, Replays, ReplayRuns}
 

@@ -9,20 +9,20 @@ use lib.Dec.{ltb}
 use borrow.Author.Tests.{eqb-true}
 use Rattle.qspi.specs.Bus.{fitsOf}
 use Rattle.qspi.specs.Command.{scratchLeast}
-use Rattle.qspi.specs.Frame.{firstOf, actionOf, takenIn, frameAt, advancedOf, gave, exchangeOf}
+use Rattle.frames.specs.Frame.{firstOf, actionOf, takenIn, frameAt, advancedOf, gave, exchangeOf}
 use Rattle.qspi.specs.declared.bus.Reply.{Reply}
 use Rattle.qspi.specs.declared.transfer.Transfer.{Transfer}
-use Rattle.qspi.specs.declared.frame.Stage.{Stage}
-use Rattle.qspi.specs.declared.frame.Outcome.{Outcome}
-use Rattle.qspi.specs.declared.frame.Advanced.{Advanced}
-use Rattle.qspi.specs.declared.frame.Frame.{Frame}
+use Rattle.frames.specs.declared.frame.Stage.{Stage}
+use Rattle.frames.specs.declared.frame.Outcome.{Outcome}
+use Rattle.frames.specs.declared.frame.Advanced.{Advanced}
+use Rattle.frames.specs.declared.frame.Frame.{Frame}
 use Rattle.spi_flash.specs.declared.loan.Takes.{Takes}
 use Rattle.spi_flash.specs.Loan.{Lent, readyOf, readyFor}
 use Rattle.spi_flash.specs.Prog.{Prog}
 use Rattle.spi_flash.specs.Run.{Event, reply, call, Entry, Moved, goesOn}
 use Rattle.spi_flash.specs.Machine.{Decision, more, well, bad, Config, out, rest, lentAs, settle, moved, machine, tree, Onward, Simulates}
 use Rattle.spi_flash.specs.Seen.{unlessRefused, Taken, Undisturbed, dataAt, SameFrom, ChangesRead, inFront, HoldsRead}
-use Rattle.spi_flash.proofs.Cases.{by-cases}
+use Rattle.qspi.proofs.Cases.{by-cases}
 use Rattle.spi_flash.proofs.OnBus.{false≢true}
 use Rattle.spi_flash.proofs.Filling.{Fills, FillsOn, Filling, FillsNext, Fed, fed}
 

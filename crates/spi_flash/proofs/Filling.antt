@@ -10,14 +10,14 @@ use lib.Seq.{paste, length-paste, drop-paste, take-at, take-length, drop-append-
 use borrow.Author.Tests.{eqb-true, le-leb}
 use Rattle.qspi.specs.Bus.{awaitsOf, fitsAt}
 use Rattle.qspi.specs.Bytes.{deliveredOf}
-use Rattle.qspi.specs.Frame.{actionAt, startAction, sinkOf, frameAt, takenAt, deliveredAt, advancedAt}
+use Rattle.frames.specs.Frame.{actionAt, startAction, sinkOf, frameAt, takenAt, deliveredAt, advancedAt}
 use Rattle.qspi.specs.declared.bus.Reply.{Reply}
 use Rattle.qspi.specs.declared.transfer.Sink.{Sink}
 use Rattle.qspi.specs.declared.transfer.Transfer.{Transfer}
-use Rattle.qspi.specs.declared.frame.Stage.{Stage}
-use Rattle.qspi.specs.declared.frame.Outcome.{Outcome}
-use Rattle.qspi.specs.declared.frame.Advanced.{Advanced}
-use Rattle.qspi.specs.declared.frame.Frame.{Frame}
+use Rattle.frames.specs.declared.frame.Stage.{Stage}
+use Rattle.frames.specs.declared.frame.Outcome.{Outcome}
+use Rattle.frames.specs.declared.frame.Advanced.{Advanced}
+use Rattle.frames.specs.declared.frame.Frame.{Frame}
 use Rattle.spi_flash.specs.Prog.{Prog, ret, fail, ask}
 use Rattle.spi_flash.specs.Seen.{dataAt, SameFrom, inFront}
 use Rattle.spi_flash.proofs.OnBus.{false≢true, Reached, done-at-start}

@@ -6,7 +6,7 @@ use mathlib.Core.Path.{_≡_, refl, ap, sym, subst, _∙_}
 use mathlib.Core.List.{List, [], _∷_, _++_}
 use mathlib.Core.Bool.{Bool, true, false}
 use Rattle.qspi.specs.declared.transfer.Transfer.{Transfer}
-use Rattle.qspi.specs.declared.frame.Outcome.{Outcome}
+use Rattle.frames.specs.declared.frame.Outcome.{Outcome}
 use Rattle.spi_flash.specs.declared.error.FlashError.{FlashError}
 use Rattle.spi_flash.specs.Prog.{Prog, ret, fail, ask, _>>=_, _>>_, if_then_else_, refuse, transfer}
 use Rattle.spi_flash.specs.Path.{Past, back, End, going, done, failed, spent, asked, Every, Some, Well, IfWell, Fits, Bounded, Reaches, Ends, AtLeast, Never}

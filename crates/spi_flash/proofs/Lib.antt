@@ -1,4 +1,3 @@
-pub mod Cases
 pub mod Table
 pub mod Bits
 pub mod Laws

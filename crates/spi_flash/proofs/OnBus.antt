@@ -8,15 +8,15 @@ use lib.ListN.{length}
 use Rattle.qspi.specs.Bus.{awaitsOf, fitsAt}
 use Rattle.qspi.specs.Command.{commandBytes}
 use Rattle.qspi.specs.Shown.{high, write, read, quadRead, quadWrite}
-use Rattle.qspi.specs.ShownBytes.{payloadBytes, startShown, shownAt}
-use Rattle.qspi.specs.Frame.{actionAt, startAction, sinkOf, valueOf, takenAt, frameAt, advancedAt}
+use Rattle.frames.specs.ShownBytes.{payloadBytes, startShown, shownAt}
+use Rattle.frames.specs.Frame.{actionAt, startAction, sinkOf, valueOf, takenAt, frameAt, advancedAt}
 use Rattle.qspi.specs.declared.bus.Awaits.{Awaits}
 use Rattle.qspi.specs.declared.bus.Reply.{Reply}
 use Rattle.qspi.specs.declared.transfer.Sink.{Sink}
 use Rattle.qspi.specs.declared.transfer.Transfer.{Transfer}
-use Rattle.qspi.specs.declared.frame.Stage.{Stage}
-use Rattle.qspi.specs.declared.frame.Outcome.{Outcome}
-use Rattle.qspi.specs.declared.frame.Advanced.{Advanced}
+use Rattle.frames.specs.declared.frame.Stage.{Stage}
+use Rattle.frames.specs.declared.frame.Outcome.{Outcome}
+use Rattle.frames.specs.declared.frame.Advanced.{Advanced}
 use Rattle.spi_flash.specs.declared.error.FlashError.{FlashError}
 use Rattle.spi_flash.specs.Run.{Answer}
 use Rattle.spi_flash.specs.OnBus.{BusProg, answers, stops, does, _>>=_, _>>_, Result, ok, resultAt, plain, sending, stored, reading, question, ifOk, framed, framedThen, onBus, performed}

@@ -9,15 +9,15 @@ use borrow.Author.Tests.{ltb-false}
 use Rattle.qspi.specs.Bus.{fitsOf}
 use Rattle.qspi.specs.Command.{scratchLeast}
 use Rattle.qspi.specs.Shown.{Shown, shownOf}
-use Rattle.qspi.specs.ShownBytes.{startShown, shownAt}
-use Rattle.qspi.specs.Frame.{firstOf, actionOf, sinkOf, takenAt, takenIn, frameAt, advancedAt, advancedOf, gave, exchangeOf}
-use Rattle.qspi.proofs.Sent.{shown-bytes}
+use Rattle.frames.specs.ShownBytes.{startShown, shownAt}
+use Rattle.frames.specs.Frame.{firstOf, actionOf, sinkOf, takenAt, takenIn, frameAt, advancedAt, advancedOf, gave, exchangeOf}
+use Rattle.frames.proofs.Sent.{shown-bytes}
 use Rattle.qspi.specs.declared.bus.Reply.{Reply}
 use Rattle.qspi.specs.declared.transfer.Transfer.{Transfer}
-use Rattle.qspi.specs.declared.frame.Stage.{Stage}
-use Rattle.qspi.specs.declared.frame.Outcome.{Outcome}
-use Rattle.qspi.specs.declared.frame.Advanced.{Advanced}
-use Rattle.qspi.specs.declared.frame.Frame.{Frame}
+use Rattle.frames.specs.declared.frame.Stage.{Stage}
+use Rattle.frames.specs.declared.frame.Outcome.{Outcome}
+use Rattle.frames.specs.declared.frame.Advanced.{Advanced}
+use Rattle.frames.specs.declared.frame.Frame.{Frame}
 use Rattle.spi_flash.specs.declared.loan.Takes.{Takes}
 use Rattle.spi_flash.specs.Loan.{Lent, readyOf, readyFor}
 use Rattle.spi_flash.specs.Prog.{Prog, ask}
@@ -25,7 +25,7 @@ use Rattle.spi_flash.specs.Run.{Event, reply, call, act, Entry, Moved, g
 use Rattle.spi_flash.specs.Machine.{Decision, more, well, bad, Config, out, rest, lentAs, settle, moved, machine, tree, Onward, Simulates}
 use Rattle.spi_flash.specs.Seen.{Did, did, toldThen, told, repliesOf, unlessRefused, Taken, SameData, Undisturbed}
 use Rattle.spi_flash.specs.OnBus.{BusProg, does, programOnBus, performed}
-use Rattle.spi_flash.proofs.Cases.{by-cases}
+use Rattle.qspi.proofs.Cases.{by-cases}
 use Rattle.spi_flash.proofs.OnBus.{false≢true, answerOf, concluded, behind, Proper, onward, Goes, Follows, starts, follows}
 
 -- ---- what an action shows

@@ -7,14 +7,14 @@ use mathlib.Core.List.{List, [], _∷_, _++_}
 use lib.ListN.{length}
 use borrow.Author.Tests.{eq-eqb}
 use Rattle.qspi.specs.Bus.{fitsOf}
-use Rattle.qspi.specs.Frame.{firstOf, actionOf, exchangeOf, advancedOf, frameAt, valueOf}
+use Rattle.frames.specs.Frame.{firstOf, actionOf, exchangeOf, advancedOf, frameAt, valueOf}
 use Rattle.qspi.specs.declared.bus.Reply.{Reply}
 use Rattle.qspi.specs.declared.transfer.Transfer.{Transfer}
 use Rattle.qspi.specs.declared.transfer.Sink.{Sink}
-use Rattle.qspi.specs.declared.frame.Frame.{Frame}
-use Rattle.qspi.specs.declared.frame.Stage.{Stage}
-use Rattle.qspi.specs.declared.frame.Outcome.{Outcome}
-use Rattle.qspi.specs.declared.frame.Advanced.{Advanced}
+use Rattle.frames.specs.declared.frame.Frame.{Frame}
+use Rattle.frames.specs.declared.frame.Stage.{Stage}
+use Rattle.frames.specs.declared.frame.Outcome.{Outcome}
+use Rattle.frames.specs.declared.frame.Advanced.{Advanced}
 use Rattle.spi_flash.specs.declared.loan.Takes.{Takes}
 use Rattle.spi_flash.specs.Loan.{Lent}
 use Rattle.spi_flash.specs.Prog.{Prog, ret, fail, ask}

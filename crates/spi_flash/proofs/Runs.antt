@@ -10,15 +10,15 @@ use lib.Dec.{lit<}
 use Rattle.qspi.specs.Choice.{pick}
 use Rattle.qspi.specs.Bus.{awaitsOf, fitsAt, fitsOf}
 use Rattle.qspi.specs.Shown.{shownOf, delayOf}
-use Rattle.qspi.specs.Frame.{firstOf, actionOf, actionAt, commandAction, payloadAction, exchangedTo, exchangeOf, advancedOf, advancedAt, frameAt, movedOn, nextStage, gave, takenIn}
+use Rattle.frames.specs.Frame.{firstOf, actionOf, actionAt, commandAction, payloadAction, exchangedTo, exchangeOf, advancedOf, advancedAt, frameAt, movedOn, nextStage, gave, takenIn}
 use Rattle.qspi.specs.declared.bus.Reply.{Reply}
 use Rattle.qspi.specs.declared.transfer.Transfer.{Transfer}
-use Rattle.qspi.specs.declared.frame.Frame.{Frame}
-use Rattle.qspi.specs.declared.frame.Stage.{Stage}
-use Rattle.qspi.specs.declared.frame.Outcome.{Outcome}
-use Rattle.qspi.specs.declared.frame.Following.{Following}
-use Rattle.qspi.specs.declared.frame.Advanced.{Advanced}
-use Rattle.qspi.specs.declared.frame.Exchanged.{Exchanged}
+use Rattle.frames.specs.declared.frame.Frame.{Frame}
+use Rattle.frames.specs.declared.frame.Stage.{Stage}
+use Rattle.frames.specs.declared.frame.Outcome.{Outcome}
+use Rattle.frames.specs.declared.frame.Following.{Following}
+use Rattle.frames.specs.declared.frame.Advanced.{Advanced}
+use Rattle.frames.specs.declared.frame.Exchanged.{Exchanged}
 use Rattle.spi_flash.specs.declared.loan.Takes.{Takes}
 use Rattle.spi_flash.specs.Loan.{Lent, readyFor}
 use Rattle.spi_flash.specs.Prog.{Prog, ask}

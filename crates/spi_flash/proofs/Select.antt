@@ -4,11 +4,11 @@ use mathlib.Core.Bool.{Bool, true}
 use mathlib.Core.Path.{_≡_, refl}
 use mathlib.Core.List.{List, [], _∷_}
 use Rattle.qspi.specs.Shown.{shownOf}
-use Rattle.qspi.specs.Frame.{firstOf, actionOf, exchangeOf}
+use Rattle.frames.specs.Frame.{firstOf, actionOf, exchangeOf}
 use Rattle.qspi.specs.declared.transfer.Transfer.{Transfer}
-use Rattle.qspi.specs.declared.frame.Stage.{Stage}
-use Rattle.qspi.specs.declared.frame.Outcome.{Outcome}
-use Rattle.qspi.specs.declared.frame.Frame.{Frame}
+use Rattle.frames.specs.declared.frame.Stage.{Stage}
+use Rattle.frames.specs.declared.frame.Outcome.{Outcome}
+use Rattle.frames.specs.declared.frame.Frame.{Frame}
 use Rattle.spi_flash.specs.declared.loan.Takes.{Takes}
 use Rattle.spi_flash.specs.Loan.{Lent}
 use Rattle.spi_flash.specs.Run.{Event, reply, call, Moved, goesOn}

@@ -8,15 +8,15 @@ use lib.ListN.{length}
 use lib.Dec.{leb}
 use Rattle.qspi.specs.Choice.{pick}
 use Rattle.qspi.specs.Bus.{fitsOf}
-use Rattle.qspi.specs.Frame.{firstOf, actionOf, sinkOf, takenInto, takenAt, takenIn, exchangedTo, advancedOf, gave, exchangeOf}
+use Rattle.frames.specs.Frame.{firstOf, actionOf, sinkOf, takenInto, takenAt, takenIn, exchangedTo, advancedOf, gave, exchangeOf}
 use Rattle.qspi.specs.declared.bus.Reply.{Reply}
 use Rattle.qspi.specs.declared.command.Command.{Command}
 use Rattle.qspi.specs.declared.transfer.Sink.{Sink}
 use Rattle.qspi.specs.declared.transfer.Transfer.{Transfer}
-use Rattle.qspi.specs.declared.frame.Advanced.{Advanced}
-use Rattle.qspi.specs.declared.frame.Exchanged.{Exchanged}
-use Rattle.qspi.specs.declared.frame.Frame.{Frame}
-use Rattle.qspi.specs.declared.frame.Outcome.{Outcome}
+use Rattle.frames.specs.declared.frame.Advanced.{Advanced}
+use Rattle.frames.specs.declared.frame.Exchanged.{Exchanged}
+use Rattle.frames.specs.declared.frame.Frame.{Frame}
+use Rattle.frames.specs.declared.frame.Outcome.{Outcome}
 use Rattle.spi_flash.specs.declared.loan.Takes.{Takes}
 use Rattle.spi_flash.specs.declared.wait.Timings.{Timings}
 use Rattle.spi_flash.specs.Loan.{Lent}

@@ -5,12 +5,12 @@ use mathlib.Core.Path.{_≡_}
 use mathlib.Core.List.{List, [], _∷_}
 use Rattle.qspi.specs.Choice.{pick}
 use Rattle.qspi.specs.Shown.{shownOf}
-use Rattle.qspi.specs.Frame.{firstOf, actionOf, exchangeOf}
+use Rattle.frames.specs.Frame.{firstOf, actionOf, exchangeOf}
 use Rattle.qspi.specs.declared.bus.Reply.{Reply}
 use Rattle.qspi.specs.declared.transfer.Transfer.{Transfer}
-use Rattle.qspi.specs.declared.frame.Frame.{Frame}
-use Rattle.qspi.specs.declared.frame.Outcome.{Outcome}
-use Rattle.qspi.specs.declared.frame.Exchanged.{Exchanged}
+use Rattle.frames.specs.declared.frame.Frame.{Frame}
+use Rattle.frames.specs.declared.frame.Outcome.{Outcome}
+use Rattle.frames.specs.declared.frame.Exchanged.{Exchanged}
 use Rattle.spi_flash.specs.declared.error.FlashError.{FlashError}
 use Rattle.spi_flash.specs.declared.loan.Takes.{Takes}
 use Rattle.spi_flash.specs.Loan.{Lent, readyFor}

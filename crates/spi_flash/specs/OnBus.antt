@@ -4,9 +4,9 @@ use Prim.Native.Nat.{ℕ}
 use mathlib.Core.List.{List, [], _∷_}
 use Rattle.qspi.specs.Bytes.{deliveredOf}
 use Rattle.qspi.specs.Command.{commandBytes}
-use Rattle.qspi.specs.Frame.{valueOf}
+use Rattle.frames.specs.Frame.{valueOf}
 use Rattle.qspi.specs.Shown.{Shown, low, high, write, read, quadRead, quadWrite, delay}
-use Rattle.qspi.specs.ShownBytes.{payloadBytes}
+use Rattle.frames.specs.ShownBytes.{payloadBytes}
 use Rattle.qspi.specs.declared.bus.Reply.{Reply}
 use Rattle.qspi.specs.declared.transfer.Sink.{Sink}
 use Rattle.qspi.specs.declared.transfer.Transfer.{Transfer}

@@ -4,10 +4,10 @@ use mathlib.Core.Path.{_≡_}
 use mathlib.Core.List.{List, [], _∷_, _++_}
 use lib.ListN.{length}
 use Rattle.qspi.specs.Bytes.{AllBytes}
-use Rattle.qspi.specs.Frame.{valueOf}
+use Rattle.frames.specs.Frame.{valueOf}
 use Rattle.qspi.specs.declared.transfer.Transfer.{Transfer}
 use Rattle.qspi.specs.declared.transfer.Sink.{Sink}
-use Rattle.qspi.specs.declared.frame.Outcome.{Outcome}
+use Rattle.frames.specs.declared.frame.Outcome.{Outcome}
 use Rattle.spi_flash.specs.declared.error.FlashError.{FlashError}
 use Rattle.spi_flash.specs.Prog.{Prog, ret, fail, ask}
 

@@ -8,7 +8,7 @@ use lib.Dec.{leb}
 use Rattle.qspi.specs.declared.command.Command.{Command}
 use Rattle.qspi.specs.declared.transfer.Sink.{Sink}
 use Rattle.qspi.specs.declared.transfer.Transfer.{Transfer}
-use Rattle.qspi.specs.declared.frame.Outcome.{Outcome}
+use Rattle.frames.specs.declared.frame.Outcome.{Outcome}
 use Rattle.spi_flash.specs.declared.error.FlashError.{FlashError}
 use Rattle.spi_flash.specs.declared.wait.Timings.{Timings}
 use Rattle.spi_flash.specs.Prog.{Prog, ret, fail, _>>=_, _>>_, if_then_else_, transfer}

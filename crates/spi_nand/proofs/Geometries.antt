@@ -8,7 +8,7 @@ use native.Mathlib.Nat.{mul-assoc, mul-le-mul, le-mul-of-pos-right}
 use lib.Dec.{leb, eqb}
 use borrow.Author.Tests.{leb-true}
 use Rattle.qspi.proofs.Tests.{tests}
-use Rattle.spi_flash.proofs.Cases.{by-cases}
+use Rattle.qspi.proofs.Cases.{by-cases}
 use Rattle.spi_flash.proofs.Table.{both, every}
 use Rattle.spi_nand.specs.Config.{blockSizeOf, pageCountOf, capacityOf, inBounds, KnownNand, knownNandDevices, geometryIn, fromJedec}
 use Rattle.spi_nand.specs.Geometries.{Bounded, Exact, Supported, GeometriesHold}

@@ -5,7 +5,7 @@ use native.Mathlib.Omega.{arith}
 use native.Mathlib.Nat.{le-div-iff-mul-le, div-lt-iff-lt-mul, mul-le-mul-right, le-mul-of-pos-right}
 use lib.Dec.{leb}
 use borrow.Author.Tests.{le-leb, lt-leb}
-use Rattle.spi_flash.proofs.Cases.{by-order}
+use Rattle.qspi.proofs.Cases.{by-order}
 use Rattle.spi_nand.specs.Config.{usizeMax, saturating}
 
 -- the quotient by b tells whether the product with b fits

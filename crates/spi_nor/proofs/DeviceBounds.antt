@@ -10,7 +10,7 @@ use lib.Pow.{pow-mono}
 use borrow.Author.Tests.{eqb-true, leb-true, leb-false}
 use Rattle.qspi.specs.Choice.{pick}
 use Rattle.qspi.proofs.Tests.{tests}
-use Rattle.spi_flash.proofs.Cases.{by-cases}
+use Rattle.qspi.proofs.Cases.{by-cases}
 use Rattle.spi_nor.specs.Config.{largestCapacity, largestPage, standardDevice, jedecId, sameId, unknownDevice, capacityBytesOf, fromJedec, inBoundsOf}
 use Rattle.spi_nor.specs.DeviceBounds.{InBounds, DeviceBounds}
 use Rattle.spi_nor.specs.declared.config.NorJedecId.{NorJedecId}

@@ -7,6 +7,7 @@ use native.Mathlib.Omega.{arith}
 use lib.ListN.{length, getD}
 use lib.Dec.{ltb, eqb}
 use borrow.Author.Tests.{ltb-false, eqb-true}
+use Rattle.qspi.proofs.Cases.{by-cases}
 use Rattle.tape.specs.Tape.{doneKind, dataKind, errorKind, doneLength, errorLength, headerLength}
 use Rattle.tape.specs.Record.{lengthIn, taken, shapedOf, takenIn}
 use Rattle.tape.specs.declared.record.Record.{Record}
@@ -20,10 +21,6 @@ pub data Found (s : List ℕ) (at : ℕ) : Taken → Type 0 where
       → Found s at (taken (Record.Data (at + headerLength) (lengthIn s)) (at + headerLength + lengthIn s))
   isError : getD s 0 0 ≡ errorKind → lengthIn s ≡ errorLength → headerLength + lengthIn s ≤ length s
       → Found s at (taken (Record.BusError (getD s headerLength 0)) (at + headerLength + lengthIn s))
-
-by-cases : {G : Type 0} (b : Bool) → (b ≡ true → G) → (b ≡ false → G) → G
-by-cases true f h = f refl
-by-cases false f h = h refl
 
 shaped : (s : List ℕ) (at : ℕ) → headerLength + lengthIn s ≤ length s → Found s at (shapedOf s at (getD s 0 0) (lengthIn s))
 unfolding shapedOf
