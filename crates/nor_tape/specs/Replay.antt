@@ -13,7 +13,7 @@ use Rattle.nor_driver.specs.declared.state.Given.{Given}
 use Rattle.nor_driver.specs.declared.state.SpiNorFlash.{SpiNorFlash}
 use Rattle.nor_driver.specs.declared.state.Stepped.{Stepped}
 use Rattle.tape.specs.Judge.{acceptedOf, firstOf}
-use Rattle.tape.specs.Record.{takenAt, dataOf}
+use Rattle.tape.specs.Record.{takenAt, dataOf, spentOf, replyOf}
 use Rattle.tape.specs.declared.record.Record.{Record}
 use Rattle.nor_tape.specs.declared.replay.Replay.{Replay}
 
@@ -40,19 +40,6 @@ playedAt at m = playedTo (replayAt (m .stepped) at) (m .scratch) (m .buffer)
 -- select and delay are answered by done
 unfoldable pub plainOver : SpiNorFlash → ℕ → List ℕ → List ℕ → List ℕ → Played
 plainOver flash at scratch buffer lent = playedAt at (stepOf flash Reply.Done [] scratch buffer lent)
-
-abbrev pub spentOf : Record → Bool
-spentOf Record.Done = false
-spentOf (Record.Data from len) = false
-spentOf (Record.BusError code) = false
-spentOf Record.Spent = true
-
--- the reply that a record holds; without one there is none to give
-abbrev pub replyOf : Record → Reply
-replyOf Record.Done = Reply.Done
-replyOf (Record.Data from len) = Reply.Data
-replyOf (Record.BusError code) = Reply.Error code
-replyOf Record.Spent = Reply.Done
 
 -- a bus action is answered by the record; with none left it is 16, "call unfinished"
 abbrev pub recordThen : Record → SpiNorFlash → ℕ → List ℕ → List ℕ → List ℕ → List ℕ → Played

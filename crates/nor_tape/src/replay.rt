@@ -10,10 +10,9 @@ use spi_flash::error::FlashError;
 use tape::judge;
 use tape::reader;
 use tape::record;
-use tape::record::Record;
 ghost use mathlib.Core.Path.{_≡_};
 ghost use lib.ListN.{length};
-ghost use Rattle.nor_tape.specs.Replay.{replayAt, begunOver, playedTo, plainOver, spentOf, replyOf, recordOver, advancedOver};
+ghost use Rattle.nor_tape.specs.Replay.{replayAt, begunOver, playedTo, plainOver, recordOver, advancedOver};
 
 // The driver with what it gave last, and the position of the reader's next record.
 pub struct Replay {
@@ -62,30 +61,6 @@ fn plain(
     replay_at(stepped, at)
 }
 
-// Whether no record was left.
-fn spent(given: Record) -> bool
-    ensures { λ r. ⌜ r ≡ spentOf given ⌝ }
-{
-    match given {
-        Record::Done => false,
-        Record::Data { from: _, len: _ } => false,
-        Record::BusError(_) => false,
-        Record::Spent => true,
-    }
-}
-
-// The reply that a record holds. Where there is none, no reply is given.
-fn reply_of(given: Record) -> Reply
-    ensures { λ r. ⌜ r ≡ replyOf given ⌝ }
-{
-    match given {
-        Record::Done => Reply::Done,
-        Record::Data { from: _, len: _ } => Reply::Data,
-        Record::BusError(code) => Reply::Error(code),
-        Record::Spent => Reply::Done,
-    }
-}
-
 // The reply in the record at the reader's position. Where there is none, the call stays unfinished.
 fn recorded(
     flash: SpiNorFlash,
@@ -100,12 +75,12 @@ fn recorded(
     let taken = reader::next_at(tape, at);
     let given = taken.given;
     let next = taken.next;
-    if spent(given) {
+    if record::none_left(given) {
         return replay_at(step::refused(flash, FlashError::TapeSpent), next);
     }
     let stepped = step::step(
         flash,
-        reply_of(given),
+        record::reply(given),
         record::data(tape, given),
         scratch,
         buffer,

@@ -17,7 +17,7 @@ use Rattle.spi_flash.specs.Error.{errorNumber}
 use Rattle.spi_flash.specs.Loan.{Lent, readyOf, readyFor}
 use Rattle.spi_flash.specs.declared.error.FlashError.{FlashError}
 use Rattle.spi_flash.specs.declared.loan.Takes.{Takes}
-use Rattle.tape.specs.Record.{takenAt, dataOf}
+use Rattle.tape.specs.Record.{takenAt, dataOf, spentOf, replyOf}
 use Rattle.tape.specs.declared.record.Record.{Record}
 use Rattle.nor_next.specs.declared.then.Then.{Then}
 use Rattle.nor_driver.specs.Step.{settledOf, exchangedThen, proceedOf, stepAt, stepOf}
@@ -25,7 +25,7 @@ use Rattle.nor_driver.specs.declared.state.Given.{Given}
 use Rattle.nor_driver.specs.declared.state.Job.{Job}
 use Rattle.nor_driver.specs.declared.state.Running.{Running}
 use Rattle.nor_driver.specs.declared.state.SpiNorFlash.{SpiNorFlash}
-use Rattle.nor_tape.specs.Replay.{spentOf, replyOf, recordThen, recordOver, plainOver, advancedThen, advancedOver}
+use Rattle.nor_tape.specs.Replay.{recordThen, recordOver, plainOver, advancedThen, advancedOver}
 use Rattle.nor_tape.specs.declared.replay.Replay.{Replay}
 use Rattle.replay_runs.specs.Exactly.{Just, stepGives, nextRecord, Exactly}
 

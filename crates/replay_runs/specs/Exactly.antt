@@ -9,12 +9,12 @@ use Rattle.qspi.specs.declared.bus.Action.{Action}
 use Rattle.frames.specs.Frame.{actionOf}
 use Rattle.spi_flash.specs.Loan.{Lent, readyFor}
 use Rattle.spi_flash.specs.declared.error.FlashError.{FlashError}
-use Rattle.tape.specs.Record.{takenAt, dataOf}
+use Rattle.tape.specs.Record.{takenAt, dataOf, spentOf, replyOf}
 use Rattle.tape.specs.declared.record.Record.{Record}
 use Rattle.nor_driver.specs.declared.state.Given.{Given}
 use Rattle.nor_driver.specs.declared.state.Job.{Job}
 use Rattle.nor_driver.specs.declared.state.Running.{Running}
-use Rattle.nor_tape.specs.Replay.{spentOf, replyOf, advancedOver}
+use Rattle.nor_tape.specs.Replay.{advancedOver}
 use Rattle.nor_tape.specs.declared.replay.Replay.{Replay}
 
 -- the one holds just where the other does

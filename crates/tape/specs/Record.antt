@@ -1,11 +1,13 @@
 -- What stands at a position of a tape, on every list of bytes and at every position.
 use Prim.Native.Nat.{ℕ, _+_, _-_}
+use mathlib.Core.Bool.{Bool, true, false}
 use mathlib.Core.List.{List, []}
 use lib.ListN.{length, getD, take, drop}
 use lib.Seq.{slice}
 use lib.Dec.{ltb, eqb}
 use Rattle.qspi.specs.Choice.{pick}
 use Rattle.qspi.specs.Bytes.{partOf, numberOf}
+use Rattle.qspi.specs.declared.bus.Reply.{Reply}
 use Rattle.tape.specs.Tape.{doneKind, dataKind, errorKind, doneLength, errorLength, kindWidth, lengthWidth, headerLength, trailerLength}
 use Rattle.tape.specs.declared.record.Record.{Record}
 use Rattle.tape.specs.declared.record.Taken.{Taken}
@@ -68,3 +70,17 @@ dataOf tape Record.Done = []
 dataOf tape (Record.Data from len) = partOf tape from len
 dataOf tape (Record.BusError code) = []
 dataOf tape Record.Spent = []
+
+-- no record is left
+abbrev pub spentOf : Record → Bool
+spentOf Record.Done = false
+spentOf (Record.Data from len) = false
+spentOf (Record.BusError code) = false
+spentOf Record.Spent = true
+
+-- the reply that a record holds; without one there is none to give
+abbrev pub replyOf : Record → Reply
+replyOf Record.Done = Reply.Done
+replyOf (Record.Data from len) = Reply.Data
+replyOf (Record.BusError code) = Reply.Error code
+replyOf Record.Spent = Reply.Done

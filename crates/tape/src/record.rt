@@ -1,11 +1,12 @@
 // The records of a tape: what stands at a position, and where the next record stands.
 // Every function takes every tape and every position; where no record fits, it gives Spent and stays.
+use qspi::bus::Reply;
 use qspi::bytes;
 ghost use mathlib.Core.Path.{_≡_};
 ghost use Prim.Native.Nat.{_+_, _≤_, _<_, _^_};
 ghost use lib.ListN.{length};
 ghost use Rattle.tape.specs.Tape.{headerLength};
-ghost use Rattle.tape.specs.Record.{trailerAt, aheadOf, lengthIn, taken, shapedOf, takenAt, numberOfRecord, lengthOf, dataOf};
+ghost use Rattle.tape.specs.Record.{trailerAt, aheadOf, lengthIn, taken, shapedOf, takenAt, numberOfRecord, lengthOf, dataOf, spentOf, replyOf};
 
 // The kinds of records.
 pub const DONE: u8 = 0;
@@ -174,5 +175,29 @@ pub fn data(tape: &[u8], answer: Record) -> &[u8]
         Record::Data { from, len } => bytes::part(tape, from, len),
         Record::BusError(_) => &tape[..0],
         Record::Spent => &tape[..0],
+    }
+}
+
+// Whether no record was left.
+pub fn none_left(answer: Record) -> bool
+    ensures { λ r. ⌜ r ≡ spentOf answer ⌝ }
+{
+    match answer {
+        Record::Done => false,
+        Record::Data { from: _, len: _ } => false,
+        Record::BusError(_) => false,
+        Record::Spent => true,
+    }
+}
+
+// The reply that a record holds. Where there is none, no reply is given.
+pub fn reply(answer: Record) -> Reply
+    ensures { λ r. ⌜ r ≡ replyOf answer ⌝ }
+{
+    match answer {
+        Record::Done => Reply::Done,
+        Record::Data { from: _, len: _ } => Reply::Data,
+        Record::BusError(code) => Reply::Error(code),
+        Record::Spent => Reply::Done,
     }
 }
