@@ -16,6 +16,8 @@ use Rattle.spi_nor.specs.declared.config.QuadSetting.{QuadSetting}
 use Rattle.spi_nor.specs.declared.config.SpiNorConfig.{SpiNorConfig}
 use Rattle.nor_driver.specs.declared.state.Call.{Call}
 use Rattle.trace.specs.declared.nor.Asked.{Asked}
+use Rattle.trace.specs.declared.nor.Length.{Length}
+use Rattle.trace.specs.declared.nor.Offset.{Offset}
 
 -- "device 8388608 4096 65536 256 NOR: a device of the caller's own"
 abbrev pub ownName : List ℕ
@@ -60,22 +62,26 @@ plainCall k config =
 unfoldable pub plainOf : List ℕ → Call → Asked
 plainOf line call = pick (eqb (wordsOf line) 2) (Asked.Begin call Takes.Nothing) Asked.Bad
 
--- a number that fits 64 bits, but no larger than the Rust takes
-abbrev pub upTo : ℕ → Number → Number
-upTo most (Number.Value n) = pick (leb n most) (Number.Value n) Number.Malformed
-upTo most Number.Malformed = Number.Malformed
+abbrev pub offsetAt : Number → Offset
+offsetAt (Number.Value n) = pick (leb n 4294967295) (Offset.At n) Offset.Malformed
+offsetAt Number.Malformed = Offset.Malformed
 
-unfoldable pub offsetOf : List ℕ → ℕ → Number
-offsetOf line k = upTo 4294967295 (numberOf (wordOf k line))
+-- an offset of the Rust has 32 bits
+unfoldable pub offsetOf : List ℕ → ℕ → Offset
+offsetOf line k = offsetAt (numberOf (wordOf k line))
+
+abbrev pub lengthAt : Number → ℕ → Length
+lengthAt (Number.Value n) room = pick (leb n 16777216) (pick (leb n room) (Length.Bytes n) Length.Malformed) Length.Malformed
+lengthAt Number.Malformed room = Length.Malformed
 
 -- "a call with a buffer: its length comes last"; there must be room for it
-unfoldable pub lengthOf : List ℕ → ℕ → Number
-lengthOf line room = upTo room (upTo 16777216 (numberOf (lastOf line)))
+unfoldable pub lengthOf : List ℕ → ℕ → Length
+lengthOf line room = lengthAt (numberOf (lastOf line)) room
 
-abbrev pub readAt : Number → Number → Asked
-readAt Number.Malformed n = Asked.Bad
-readAt (Number.Value from) Number.Malformed = Asked.Bad
-readAt (Number.Value from) (Number.Value n) = Asked.Begin (Call.Read from) (Takes.Buffer n)
+abbrev pub readAt : Offset → Length → Asked
+readAt Offset.Malformed n = Asked.Bad
+readAt (Offset.At from) Length.Malformed = Asked.Bad
+readAt (Offset.At from) (Length.Bytes n) = Asked.Begin (Call.Read from) (Takes.Buffer n)
 
 unfoldable pub readOf : List ℕ → ℕ → Asked
 readOf line room = pick (eqb (wordsOf line) 4) (readAt (offsetOf line 2) (lengthOf line room)) Asked.Bad
@@ -91,32 +97,32 @@ dataFits line room =
     (pick (isHexOf (digitsAfter line)) (leb (length (digitsAfter line) / 2) room) false)
     false)
 
-abbrev pub writeAt : Number → Bool → ℕ → Asked
-writeAt Number.Malformed fits n = Asked.Bad
-writeAt (Number.Value to) fits n = pick fits (Asked.Begin (Call.Write to) (Takes.Data n)) Asked.Bad
+abbrev pub writeAt : Offset → Bool → ℕ → Asked
+writeAt Offset.Malformed fits n = Asked.Bad
+writeAt (Offset.At to) fits n = pick fits (Asked.Begin (Call.Write to) (Takes.Data n)) Asked.Bad
 
 unfoldable pub writeOf : List ℕ → ℕ → Asked
 writeOf line room =
     pick (eqb (wordsOf line) 4) (writeAt (offsetOf line 2) (dataFits line room) (length (digitsAfter line) / 2)) Asked.Bad
 
-abbrev pub eraseAt : Number → Number → Asked
-eraseAt Number.Malformed to = Asked.Bad
-eraseAt (Number.Value from) Number.Malformed = Asked.Bad
-eraseAt (Number.Value from) (Number.Value to) = Asked.Begin (Call.Erase from to) Takes.Nothing
+abbrev pub eraseAt : Offset → Offset → Asked
+eraseAt Offset.Malformed to = Asked.Bad
+eraseAt (Offset.At from) Offset.Malformed = Asked.Bad
+eraseAt (Offset.At from) (Offset.At to) = Asked.Begin (Call.Erase from to) Takes.Nothing
 
 unfoldable pub eraseOf : List ℕ → Asked
 eraseOf line = pick (eqb (wordsOf line) 4) (eraseAt (offsetOf line 2) (offsetOf line 3)) Asked.Bad
 
-abbrev pub sectorAt : Number → Asked
-sectorAt Number.Malformed = Asked.Bad
-sectorAt (Number.Value offset) = Asked.Begin (Call.EraseSector offset) Takes.Nothing
+abbrev pub sectorAt : Offset → Asked
+sectorAt Offset.Malformed = Asked.Bad
+sectorAt (Offset.At offset) = Asked.Begin (Call.EraseSector offset) Takes.Nothing
 
 unfoldable pub sectorOf : List ℕ → Asked
 sectorOf line = pick (eqb (wordsOf line) 3) (sectorAt (offsetOf line 2)) Asked.Bad
 
-abbrev pub blockAt : Number → Asked
-blockAt Number.Malformed = Asked.Bad
-blockAt (Number.Value offset) = Asked.Begin (Call.EraseBlock offset) Takes.Nothing
+abbrev pub blockAt : Offset → Asked
+blockAt Offset.Malformed = Asked.Bad
+blockAt (Offset.At offset) = Asked.Begin (Call.EraseBlock offset) Takes.Nothing
 
 unfoldable pub blockOf : List ℕ → Asked
 blockOf line = pick (eqb (wordsOf line) 3) (blockAt (offsetOf line 2)) Asked.Bad

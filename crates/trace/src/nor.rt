@@ -40,6 +40,17 @@ const ERASE_SECTOR: usize = 18;
 
 const ERASE_BLOCK: usize = 19;
 
+// An offset of a call, and the length of its buffer.
+pub enum Offset {
+    At(u32),
+    Malformed,
+}
+
+pub enum Length {
+    Bytes(usize),
+    Malformed,
+}
+
 pub enum Asked {
     Begin { call: Call, takes: Takes },
     Bad,
@@ -107,32 +118,33 @@ fn plain(line: &[u8], call: Call) -> Asked
 }
 
 // A word that is a number of 32 bits.
-fn offset(line: &[u8], k: usize) -> Number
+fn offset_of(line: &[u8], k: usize) -> Offset
     ensures { λ r. ⌜ r ≡ offsetOf (now (line .entry)) k ⌝ }
 {
     let Number::Value(n) = word::parsed(word::word(line, k)) else {
-        return Number::Malformed;
+        return Offset::Malformed;
     };
     if n <= OFFSET_MOST {
-        return Number::Value(n);
+        return Offset::At(n as u32);
     }
-    Number::Malformed
+    Offset::Malformed
 }
 
 // The length of a buffer for which there is room.
-fn length(line: &[u8], room_len: usize) -> Number
+fn length_of(line: &[u8], room_len: usize) -> Length
     ensures { λ r. ⌜ r ≡ lengthOf (now (line .entry)) «room_len» ⌝ }
 {
     let Number::Value(n) = word::parsed(word::last(line)) else {
-        return Number::Malformed;
+        return Length::Malformed;
     };
-    if (BUFFER_MOST as u64) < n {
-        return Number::Malformed;
+    let len = n as usize;
+    if BUFFER_MOST < len {
+        return Length::Malformed;
     }
-    if (room_len as u64) < n {
-        return Number::Malformed;
+    if room_len < len {
+        return Length::Malformed;
     }
-    Number::Value(n)
+    Length::Bytes(len)
 }
 
 fn read(line: &[u8], room_len: usize) -> Asked
@@ -141,17 +153,15 @@ fn read(line: &[u8], room_len: usize) -> Asked
     if word::words(line) != WORDS_TWO {
         return Asked::Bad;
     }
-    let Number::Value(from) = offset(line, 2) else {
+    let Offset::At(from) = offset_of(line, 2) else {
         return Asked::Bad;
     };
-    let Number::Value(n) = length(line, room_len) else {
+    let Length::Bytes(n) = length_of(line, room_len) else {
         return Asked::Bad;
     };
     Asked::Begin {
-        call: Call::Read {
-            offset: from as u32,
-        },
-        takes: Takes::Buffer(n as usize),
+        call: Call::Read { offset: from },
+        takes: Takes::Buffer(n),
     }
 }
 
@@ -162,7 +172,7 @@ fn write(line: &[u8], room_len: usize) -> Asked
     if word::words(line) != WORDS_TWO {
         return Asked::Bad;
     }
-    let Number::Value(to) = offset(line, 2) else {
+    let Offset::At(to) = offset_of(line, 2) else {
         return Asked::Bad;
     };
     let lent = word::last(line);
@@ -180,7 +190,7 @@ fn write(line: &[u8], room_len: usize) -> Asked
         return Asked::Bad;
     }
     Asked::Begin {
-        call: Call::Write { offset: to as u32 },
+        call: Call::Write { offset: to },
         takes: Takes::Data(digits.len() / 2),
     }
 }
@@ -191,17 +201,14 @@ fn erase(line: &[u8]) -> Asked
     if word::words(line) != WORDS_TWO {
         return Asked::Bad;
     }
-    let Number::Value(from) = offset(line, 2) else {
+    let Offset::At(from) = offset_of(line, 2) else {
         return Asked::Bad;
     };
-    let Number::Value(to) = offset(line, 3) else {
+    let Offset::At(to) = offset_of(line, 3) else {
         return Asked::Bad;
     };
     Asked::Begin {
-        call: Call::Erase {
-            from: from as u32,
-            to: to as u32,
-        },
+        call: Call::Erase { from: from, to: to },
         takes: Takes::Nothing,
     }
 }
@@ -212,11 +219,11 @@ fn erase_sector(line: &[u8]) -> Asked
     if word::words(line) != WORDS_ONE {
         return Asked::Bad;
     }
-    let Number::Value(at) = offset(line, 2) else {
+    let Offset::At(at) = offset_of(line, 2) else {
         return Asked::Bad;
     };
     Asked::Begin {
-        call: Call::EraseSector { offset: at as u32 },
+        call: Call::EraseSector { offset: at },
         takes: Takes::Nothing,
     }
 }
@@ -227,11 +234,11 @@ fn erase_block(line: &[u8]) -> Asked
     if word::words(line) != WORDS_ONE {
         return Asked::Bad;
     }
-    let Number::Value(at) = offset(line, 2) else {
+    let Offset::At(at) = offset_of(line, 2) else {
         return Asked::Bad;
     };
     Asked::Begin {
-        call: Call::EraseBlock { offset: at as u32 },
+        call: Call::EraseBlock { offset: at },
         takes: Takes::Nothing,
     }
 }
