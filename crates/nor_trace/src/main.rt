@@ -18,8 +18,9 @@ fn main() {
     let mut room = [0u8; 3145728];
     // No action takes a longer reply.
     let mut reply = [0u8; 65536];
-    // The longest line is that of a page of 65,536 bytes, three characters each, behind its command.
-    let mut out = [0u8; 196700];
+    // No turn prints more than a piece of a buffer: two characters for each of 16,384 bytes, B, a blank and the line feed. The
+    // line of an action has 512 bytes at most, the longest page that a construction takes.
+    let mut out = [0u8; 32800];
     let mut now = nor_state::start();
     let most = nor_case::budget(text.len(), room.len());
     let mut i = 0;
