@@ -8,6 +8,7 @@ use native.Mathlib.Nat.{le-trans, le-mul-of-pos-right, zero-add, le-div-iff-mul-
 use lib.ListN.{length, drop, set, getD, drop-of-length-le}
 use lib.Seq.{drop-cons, paste, paste-suc, take-length}
 use borrow.Author.Tests.{lt-ltb, le-ltb, le-leb, lt-leb, ne-eqb, eq-eqb}
+use Rattle.qspi.specs.Bytes.{deliveredOf}
 use Rattle.case_text.specs.Number.{digitOf, digitsIn, valueFrom, numberTo, numberIn, isHexOf, byteOf, bytesOf, pairsOver}
 use Rattle.case_text.specs.declared.word.Number.{Number}
 use Rattle.case_text.proofs.Cases.{by-order}
@@ -131,3 +132,12 @@ pair-written s room i h l =
 pub pasted-pairs : (s room : List ℕ) → paste room 0 (bytesOf s) (length (bytesOf s)) ≡ pairsOver s room
 unfolding pairsOver
 pasted-pairs s room = rw (take-length (bytesOf s), zero-add) refl
+
+module _ (s room : List ℕ) where
+  pub delivered : length s / 2 ≤ length room → pairsOver s room ≡ deliveredOf room 0 (bytesOf s)
+  delivered h =
+      let n = length-bytes s in
+      rw (le-leb (length (bytesOf s)) (length room) (omega arith), le-leb 0 (length room - length (bytesOf s)) (omega arith)) (sym (pasted-pairs s room))
+
+  pub too-many : length room < length s / 2 → room ≡ deliveredOf room 0 (bytesOf s)
+  too-many h = let n = length-bytes s in rw (lt-leb (length (bytesOf s)) (length room) (omega arith)) refl
