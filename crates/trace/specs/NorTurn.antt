@@ -23,12 +23,12 @@ use Rattle.nor_driver.specs.Call.{beginOf}
 use Rattle.nor_driver.specs.Step.{Moved, refusedOf}
 use Rattle.nor_driver.specs.declared.state.Given.{Given}
 use Rattle.nor_tape.specs.Replay.{onBus}
-use Rattle.trace.specs.Nor.{ownName, quadSetting, deviceSetting, askedOf}
-use Rattle.trace.specs.NorEnd.{endingLines}
-use Rattle.trace.specs.NorLent.{bufferOf, dataOf, laidOf, answeredOver}
+use Rattle.nor_words.specs.Call.{ownName, quadSetting, deviceSetting, askedOf}
+use Rattle.nor_words.specs.End.{endingLines}
+use Rattle.nor_words.specs.Lent.{bufferOf, dataOf, laidOf, answeredOver}
 use Rattle.trace.specs.NorState.{inMode, readTo, configuredAs, startedOf, gaveTo, countedOf}
-use Rattle.trace.specs.Print.{callLine, badLine, deliveredLine, pieceOf}
-use Rattle.trace.specs.declared.nor.Asked.{Asked}
+use Rattle.nor_words.specs.Print.{callLine, badLine, deliveredLine, pieceOf}
+use Rattle.nor_words.specs.declared.call.Asked.{Asked}
 use Rattle.trace.specs.declared.nor_state.Mode.{Mode}
 use Rattle.trace.specs.declared.nor_state.Trace.{Trace}
 

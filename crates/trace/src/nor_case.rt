@@ -1,9 +1,9 @@
 // The trace of a whole NOR case.
-use crate::nor;
 use crate::nor_state;
 use crate::nor_turn;
-use crate::print;
 use case_text::line;
+use nor_words::call;
+use nor_words::print;
 ghost use mathlib.Core.Path.{_≡_};
 ghost use lib.ListN.{length};
 ghost use Rattle.lines.specs.Text.{textOf};
@@ -24,7 +24,7 @@ pub fn budget(text_len: usize, room_len: usize) -> usize
     ensures { λ r. ⌜ r ≡ budgetOf «text_len» «room_len» ⌝ }
 {
     let lines = at_most(line::TEXT_MOST, text_len) + 2;
-    let pieces = at_most(nor::BUFFER_MOST, room_len) / print::PIECE;
+    let pieces = at_most(call::BUFFER_MOST, room_len) / print::PIECE;
     lines * (pieces + LINE_TURNS)
 }
 

@@ -1,19 +1,19 @@
 // One turn of a NOR's trace: a line taken, an action or an end printed, a reply handed over.
-use crate::nor;
-use crate::nor::Asked;
-use crate::nor_end;
-use crate::nor_lent;
 use crate::nor_state;
 use crate::nor_state::Mode;
 use crate::nor_state::Trace;
 use crate::nor_state::Traced;
-use crate::print;
 use case_text::line;
 use case_text::line::Line;
 use case_text::word;
 use nor_driver::state::Given;
 use nor_driver::step;
 use nor_tape::replay;
+use nor_words::call;
+use nor_words::call::Asked;
+use nor_words::end;
+use nor_words::lent;
+use nor_words::print;
 use qspi::bus::Reply;
 use qspi::bytes;
 use spi_flash::error::FlashError;
@@ -86,9 +86,9 @@ fn between(trace: Trace, line: Line, next: usize) -> Trace
         Line::Data => left_over(trace, next),
         Line::BusError(_) => left_over(trace, next),
         Line::NoQuad => with_quad(trace, QuadSetting::Single, next),
-        Line::Quad(quad) => with_quad(trace, nor::quad_setting(quad), next),
+        Line::Quad(quad) => with_quad(trace, call::quad_setting(quad), next),
         Line::NoOwn => with_device(trace, DeviceSetting::Detect, next),
-        Line::Own(own) => with_device(trace, nor::device_setting(own), next),
+        Line::Own(own) => with_device(trace, call::device_setting(own), next),
         Line::Call => trace,
         Line::Bad => nor_state::in_mode(trace, Mode::Bad),
     }
@@ -110,15 +110,15 @@ fn called(
     let stepped = trace.stepped;
     let flash = stepped.flash;
     let line = line::line_at(text, from);
-    match nor::asked_by(line, config, room.len()) {
+    match call::asked_by(line, config, room.len()) {
         Asked::Begin { call, takes } => {
             let behind = print::call(out, at, word::word(line, 1));
-            nor_lent::lay(takes, line, room);
+            lent::lay(takes, line, room);
             let begun = flash.begin(
                 call,
                 scratch,
-                nor_lent::buffer(takes, room),
-                nor_lent::data(takes, room),
+                lent::buffer(takes, room),
+                lent::data(takes, room),
             );
             let next = line::next_line(text, from);
             nor_state::traced_at(nor_state::started(trace, begun, takes, next), behind)
@@ -156,7 +156,7 @@ fn ended(trace: Trace, out: &mut [u8], at: usize) -> Traced
     let given = stepped.given;
     let lent = trace.lent;
     let takes = lent.takes;
-    let behind = nor_end::ending(out, at, given);
+    let behind = end::ending(out, at, given);
     match takes {
         Takes::Nothing => nor_state::traced_at(nor_state::in_mode(trace, Mode::Reading), behind),
         Takes::Buffer(_) => {
@@ -176,7 +176,7 @@ fn giving<'a>(trace: Trace, scratch: &'a [u8], room: &'a [u8], out: &mut [u8], a
     let takes = lent.takes;
     match given {
         Given::Act(action) => {
-            let data = nor_lent::data(takes, room);
+            let data = lent::data(takes, room);
             let behind = lines::line::action(out, at, action, scratch, data);
             nor_state::traced_at(nor_state::in_mode(trace, Mode::Awaiting), behind)
         }
@@ -191,7 +191,7 @@ fn showing(trace: Trace, from: usize, room: &[u8], out: &mut [u8], at: usize) ->
 {
     let lent = trace.lent;
     let takes = lent.takes;
-    let buffer = nor_lent::buffer(takes, room);
+    let buffer = lent::buffer(takes, room);
     let behind = print::piece(out, at, buffer, from);
     if print::more(buffer.len(), from) {
         return nor_state::traced_at(
@@ -219,7 +219,7 @@ fn answered(
     let flash = stepped.flash;
     let lent = trace.lent;
     let takes = lent.takes;
-    let given = nor_lent::answered(flash, reply, bytes, takes, scratch, room);
+    let given = lent::answered(flash, reply, bytes, takes, scratch, room);
     nor_state::gave(trace, given, next)
 }
 
@@ -262,7 +262,7 @@ fn call_waits(trace: Trace, line: &[u8], room_len: usize) -> Trace
     ensures { λ r. ⌜ r ≡ callWaits trace (now (line .entry)) «room_len» ⌝ }
 {
     let config = trace.config;
-    match nor::asked_by(line, config, room_len) {
+    match call::asked_by(line, config, room_len) {
         Asked::Begin { call: _, takes: _ } => stopped(trace, FlashError::TapeSpent, trace.at),
         Asked::Bad => nor_state::in_mode(trace, Mode::Bad),
     }

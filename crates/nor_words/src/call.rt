@@ -11,7 +11,7 @@ use spi_nor::config::NorQuadConfig;
 use spi_nor::config::QuadSetting;
 use spi_nor::config::SpiNorConfig;
 ghost use mathlib.Core.Path.{_≡_};
-ghost use Rattle.trace.specs.Nor.{plainCall, plainOf, offsetOf, lengthOf, readOf, writeOf, eraseOf, sectorOf, blockOf, askedAt, askedOf, quadSetting, deviceSetting};
+ghost use Rattle.nor_words.specs.Call.{plainCall, plainOf, offsetOf, lengthOf, readOf, writeOf, eraseOf, sectorOf, blockOf, askedAt, askedOf, quadSetting, deviceSetting};
 
 // The largest offset and the longest buffer that are passed on.
 const OFFSET_MOST: u64 = 4294967295;

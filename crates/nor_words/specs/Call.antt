@@ -15,9 +15,9 @@ use Rattle.spi_nor.specs.declared.config.DeviceSetting.{DeviceSetting}
 use Rattle.spi_nor.specs.declared.config.QuadSetting.{QuadSetting}
 use Rattle.spi_nor.specs.declared.config.SpiNorConfig.{SpiNorConfig}
 use Rattle.nor_driver.specs.declared.state.Call.{Call}
-use Rattle.trace.specs.declared.nor.Asked.{Asked}
-use Rattle.trace.specs.declared.nor.Length.{Length}
-use Rattle.trace.specs.declared.nor.Offset.{Offset}
+use Rattle.nor_words.specs.declared.call.Asked.{Asked}
+use Rattle.nor_words.specs.declared.call.Length.{Length}
+use Rattle.nor_words.specs.declared.call.Offset.{Offset}
 
 -- "device 8388608 4096 65536 256 NOR: a device of the caller's own"
 abbrev pub ownName : List ℕ
@@ -54,9 +54,12 @@ callNames =
     110 ∷ 101 ∷ 119 ∷ 32 ∷ 110 ∷ 101 ∷ 119 ∷ 95 ∷ 115 ∷ 105 ∷ 110 ∷ 103 ∷ 108 ∷ 101 ∷ 32 ∷ 99 ∷ 111 ∷ 110 ∷ 102 ∷ 105 ∷ 103 ∷ 32 ∷ 100 ∷ 101 ∷ 118 ∷ 105 ∷ 99 ∷ 101 ∷ 32 ∷ 105 ∷ 100 ∷ 32 ∷ 102 ∷ 114 ∷ 101 ∷ 101 ∷ 32 ∷ 114 ∷ 101 ∷ 97 ∷ 100 ∷ 95 ∷ 115 ∷ 116 ∷ 97 ∷ 116 ∷ 117 ∷ 115 ∷ 49 ∷ 32 ∷ 114 ∷ 101 ∷ 97 ∷ 100 ∷ 95 ∷ 115 ∷ 116 ∷ 97 ∷ 116 ∷ 117 ∷ 115 ∷ 50 ∷ 32 ∷ 105 ∷ 115 ∷ 95 ∷ 98 ∷ 117 ∷ 115 ∷ 121 ∷ 32 ∷ 106 ∷ 101 ∷ 100 ∷ 101 ∷ 99 ∷ 95 ∷ 105 ∷ 100 ∷ 32 ∷ 117 ∷ 110 ∷ 105 ∷ 113 ∷ 117 ∷ 101 ∷ 95 ∷ 105 ∷ 100 ∷ 32 ∷ 113 ∷ 117 ∷ 97 ∷ 100 ∷ 95 ∷ 101 ∷ 110 ∷ 97 ∷ 98 ∷ 108 ∷ 101 ∷ 100 ∷ 32 ∷ 101 ∷ 110 ∷ 97 ∷ 98 ∷ 108 ∷ 101 ∷ 95 ∷ 113 ∷ 117 ∷ 97 ∷ 100 ∷ 32 ∷ 100 ∷ 105 ∷ 115 ∷ 97 ∷ 98 ∷ 108 ∷ 101 ∷ 95 ∷ 113 ∷ 117 ∷ 97 ∷ 100 ∷ 32 ∷ 117 ∷ 110 ∷ 112 ∷ 114 ∷ 111 ∷ 116 ∷ 101 ∷ 99 ∷ 116 ∷ 32 ∷ 114 ∷ 101 ∷ 97 ∷ 100 ∷ 32 ∷ 119 ∷ 114 ∷ 105 ∷ 116 ∷ 101 ∷ 32 ∷ 101 ∷ 114 ∷ 97 ∷ 115 ∷ 101 ∷ 32 ∷ 101 ∷ 114 ∷ 97 ∷ 115 ∷ 101 ∷ 95 ∷ 115 ∷ 101 ∷ 99 ∷ 116 ∷ 111 ∷ 114 ∷ 32 ∷ 101 ∷ 114 ∷ 97 ∷ 115 ∷ 101 ∷ 95 ∷ 98 ∷ 108 ∷ 111 ∷ 99 ∷ 107 ∷ []
 
 -- "new is with_config at the settings above (none at first), new_single is new"
+abbrev pub plainCalls : SpiNorConfig → List Call
+plainCalls config =
+    (Call.WithConfig config) ∷ Call.New ∷ Call.Config ∷ Call.Device ∷ Call.Id ∷ Call.Free ∷ Call.ReadStatus1 ∷ Call.ReadStatus2 ∷ Call.IsBusy ∷ Call.JedecId ∷ Call.UniqueId ∷ Call.QuadEnabled ∷ Call.EnableQuad ∷ Call.DisableQuad ∷ Call.Unprotect ∷ []
+
 unfoldable pub plainCall : ℕ → SpiNorConfig → Call
-plainCall k config =
-    getD ((Call.WithConfig config) ∷ Call.New ∷ Call.Config ∷ Call.Device ∷ Call.Id ∷ Call.Free ∷ Call.ReadStatus1 ∷ Call.ReadStatus2 ∷ Call.IsBusy ∷ Call.JedecId ∷ Call.UniqueId ∷ Call.QuadEnabled ∷ Call.EnableQuad ∷ Call.DisableQuad ∷ Call.Unprotect ∷ []) k Call.Unprotect
+plainCall k config = getD (plainCalls config) k Call.Unprotect
 
 -- a call without numbers
 unfoldable pub plainOf : List ℕ → Call → Asked

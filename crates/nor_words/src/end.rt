@@ -9,8 +9,8 @@ ghost use Rattle.lines.specs.Text.{textOf, appended};
 ghost use Rattle.nor_driver.specs.Answer.{endingOf};
 ghost use Rattle.nor_phases.specs.Answer.{answerValues};
 ghost use Rattle.spi_flash.specs.Error.{errorValues};
-ghost use Rattle.trace.specs.Print.{valuesLine};
-ghost use Rattle.trace.specs.NorEnd.{endingLines};
+ghost use Rattle.nor_words.specs.Print.{valuesLine};
+ghost use Rattle.nor_words.specs.End.{endingLines};
 
 const VALUES: u8 = 86;
 

@@ -10,7 +10,7 @@ use spi_flash::loan::Takes;
 ghost use mathlib.Core.List.{[]};
 ghost use mathlib.Core.Path.{_≡_};
 ghost use Rattle.nor_driver.specs.Step.{movedTo};
-ghost use Rattle.trace.specs.NorLent.{bufferOf, dataOf, filledOf, laidOf, noneOver, bufferOver, dataOver, answeredOver};
+ghost use Rattle.nor_words.specs.Lent.{bufferOf, dataOf, filledOf, laidOf, noneOver, bufferOver, dataOver, answeredOver};
 
 // What the caller's buffer holds before a call.
 const FILL: u8 = 0xCC;

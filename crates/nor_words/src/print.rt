@@ -8,7 +8,7 @@ ghost use mathlib.Core.Path.{_≡_};
 ghost use lib.ListN.{length};
 ghost use lib.Dec.{ltb};
 ghost use Rattle.lines.specs.Text.{textOf, appended};
-ghost use Rattle.trace.specs.Print.{callLine, badLine, deliveredLine, solidOf, headOf, pieceOf};
+ghost use Rattle.nor_words.specs.Print.{callLine, badLine, deliveredLine, solidOf, headOf, pieceOf};
 
 const DELIVERED: u8 = 71;
 
@@ -58,10 +58,13 @@ fn solid(out: &mut [u8], at: usize, s: &[u8]) -> usize
     behind
 }
 
-// B, and a blank where a byte follows.
-fn head(out: &mut [u8], at: usize, len: usize) -> usize
-    ensures { λ r. ⌜ textOf (now (out .exit)) r ≡ appended (headOf len) (textOf (now (out .entry)) at) ⌝ }
+// Before the first piece B, and a blank where a byte follows.
+fn head(out: &mut [u8], at: usize, from: usize, len: usize) -> usize
+    ensures { λ r. ⌜ textOf (now (out .exit)) r ≡ appended (headOf from len) (textOf (now (out .entry)) at) ⌝ }
 {
+    if from != 0 {
+        return at;
+    }
     let behind = text::put(out, at, BUFFER);
     if len == 0 {
         return behind;
@@ -83,10 +86,7 @@ pub fn more(len: usize, from: usize) -> bool
 pub fn piece(out: &mut [u8], at: usize, buffer: &[u8], from: usize) -> usize
     ensures { λ r. ⌜ textOf (now (out .exit)) r ≡ appended (pieceOf (now (buffer .entry)) from) (textOf (now (out .entry)) at) ⌝ }
 {
-    let mut behind = at;
-    if from == 0 {
-        behind = head(out, at, buffer.len());
-    }
+    let behind = head(out, at, from, buffer.len());
     let end = solid(
         out,
         behind,

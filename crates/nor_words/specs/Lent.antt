@@ -11,7 +11,7 @@ use Rattle.spi_flash.specs.declared.error.FlashError.{FlashError}
 use Rattle.spi_flash.specs.declared.loan.Takes.{Takes}
 use Rattle.nor_driver.specs.Step.{Moved, movedTo, refusedOf, stepOf}
 use Rattle.nor_driver.specs.declared.state.SpiNorFlash.{SpiNorFlash}
-use Rattle.trace.specs.Nor.{digitsAfter}
+use Rattle.nor_words.specs.Call.{digitsAfter}
 
 abbrev pub bufferOf : Takes → List ℕ → List ℕ
 bufferOf Takes.Nothing room = []

@@ -33,12 +33,12 @@ unfoldable pub solidOf : List ℕ → List ℕ
 solidOf [] = []
 solidOf (b ∷ bs) = digitOf (b / 16) ∷ digitOf b ∷ solidOf bs
 
--- "B"; nothing follows it where the buffer is empty
-unfoldable pub headOf : ℕ → List ℕ
-headOf n = pick (eqb n 0) (66 ∷ []) (66 ∷ 32 ∷ [])
+-- "B" before the first byte; nothing follows it where the buffer is empty
+unfoldable pub headOf : ℕ → ℕ → List ℕ
+headOf from n = pick (eqb from 0) (pick (eqb n 0) (66 ∷ []) (66 ∷ 32 ∷ [])) []
 
 -- "B and the whole buffer", 16,384 bytes a turn: the part from a place on
 unfoldable pub pieceOf : List ℕ → ℕ → List ℕ
 pieceOf buffer from =
-    pick (eqb from 0) (headOf (length buffer)) [] ++ solidOf (take 16384 (drop from buffer)) ++
+    headOf from (length buffer) ++ solidOf (take 16384 (drop from buffer)) ++
     pick (ltb (from + 16384) (length buffer)) [] (10 ∷ [])
