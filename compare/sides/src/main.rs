@@ -1,26 +1,46 @@
-//! `sides CASES TRACES PROGRAM OUT`: runs PROGRAM on each case of CASES, its text on standard input, writes
-//! what it prints to OUT, and compares that with the case's trace in TRACES.
+//! `sides CASES TRACES OUT [PROGRAM]`: runs the port on each case of CASES, writes what it prints to OUT, and
+//! compares that with the case's trace in TRACES. The port is PROGRAM, with the text on standard input, or
+//! else the function of the library that was linked.
 //!
 //! The first differences are shown, then the number of cases and of differences. Both sides must be the
 //! same to the last byte.
 
+mod linked;
+mod program;
+
 use std::fs::{self, File};
 use std::io::{self, BufWriter, Write};
 use std::path::{Path, PathBuf};
-use std::process::{Command, ExitCode, Stdio};
+use std::process::ExitCode;
 
 use case_text::frame;
+
+use linked::Linked;
+use program::Program;
 
 /// Further differences are counted but not shown.
 const SHOWN: usize = 10;
 
+enum Port {
+    Linked(Linked),
+    Program(Program),
+}
+
 fn main() -> ExitCode {
     let paths: Vec<PathBuf> = std::env::args_os().skip(1).map(PathBuf::from).collect();
-    let [cases, traces, program, out] = &paths[..] else {
-        eprintln!("usage: sides CASES TRACES PROGRAM OUT");
+    let [cases, traces, out, program @ ..] = &paths[..] else {
+        eprintln!("usage: sides CASES TRACES OUT [PROGRAM]");
         return ExitCode::from(2);
     };
-    match compare(cases, traces, program, out) {
+    let port = match program {
+        [program] => Some(Port::Program(Program::new(program, out))),
+        _ => Linked::new().map(Port::Linked),
+    };
+    let Some(port) = port else {
+        eprintln!("sides: no PROGRAM, and no library was linked");
+        return ExitCode::from(2);
+    };
+    match compare(cases, traces, port, out) {
         Ok(0) => ExitCode::SUCCESS,
         Ok(_) => ExitCode::FAILURE,
         Err(error) => {
@@ -31,17 +51,19 @@ fn main() -> ExitCode {
 }
 
 /// Gives the number of differences.
-fn compare(cases: &Path, traces: &Path, program: &Path, out: &Path) -> io::Result<usize> {
+fn compare(cases: &Path, traces: &Path, mut port: Port, out: &Path) -> io::Result<usize> {
     let (cases, traces) = (fs::read(cases)?, fs::read(traces)?);
     let mut written = BufWriter::new(File::create(out)?);
-    let one_case = out.with_extension("case");
     let (mut count, mut differences) = (0, 0);
     let mut expected = frame::cases(&traces);
     for case in frame::cases(&cases) {
-        fs::write(&one_case, case)?;
-        let trace = framed(frame::head(case), &run(program, &one_case)?);
-        written.write_all(&trace)?;
         let expected = expected.next().unwrap_or_default();
+        let trace = match &mut port {
+            Port::Linked(linked) => linked.trace(case, expected.len()),
+            Port::Program(program) => program.trace(case)?,
+        };
+        let trace = framed(frame::head(case), &trace);
+        written.write_all(&trace)?;
         count += 1;
         if trace != expected {
             differences += 1;
@@ -50,21 +72,12 @@ fn compare(cases: &Path, traces: &Path, program: &Path, out: &Path) -> io::Resul
             }
         }
     }
-    fs::remove_file(&one_case)?;
+    if let Port::Program(program) = port {
+        program.clear()?;
+    }
     written.flush()?;
     println!("{count} cases, {differences} differences");
     Ok(differences)
-}
-
-fn run(program: &Path, case: &Path) -> io::Result<Vec<u8>> {
-    // The case comes from a file: a pipe would have to be filled while the output is read.
-    let input = Stdio::from(File::open(case)?);
-    let output = Command::new(program).stdin(input).output()?;
-    let mut trace = output.stdout;
-    if output.status.code().is_none() {
-        trace.extend(format!("ended by {}\n", output.status).bytes());
-    }
-    Ok(trace)
 }
 
 fn framed(head: &[u8], trace: &[u8]) -> Vec<u8> {

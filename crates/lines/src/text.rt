@@ -37,7 +37,7 @@ pub fn put_all(out: &mut [u8], at: usize, s: &[u8]) -> usize
 }
 
 // The upper-case hexadecimal digit of the low four bits.
-fn digit(n: u8) -> u8
+pub fn digit(n: u8) -> u8
     ensures { λ r. ⌜ r ≡ digitOf n ⌝ }
 {
     let d = n % 16;

@@ -1,0 +1,4 @@
+pub mod Names
+pub mod Values
+pub mod Pieces
+pub mod Filled

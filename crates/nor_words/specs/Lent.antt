@@ -1,0 +1,59 @@
+-- What a NOR call lends, at the beginning of the room, and a reply handed to the driver with it.
+use Prim.Native.Nat.{ℕ}
+use mathlib.Core.List.{List, [], _++_}
+use lib.ListN.{length, take, drop, replicate}
+use lib.Dec.{leb}
+use Rattle.qspi.specs.Bytes.{deliveredOf}
+use Rattle.qspi.specs.Choice.{pick}
+use Rattle.qspi.specs.declared.bus.Reply.{Reply}
+use Rattle.case_text.specs.Number.{bytesOf}
+use Rattle.spi_flash.specs.declared.error.FlashError.{FlashError}
+use Rattle.spi_flash.specs.declared.loan.Takes.{Takes}
+use Rattle.nor_driver.specs.Step.{Moved, movedTo, refusedOf, stepOf}
+use Rattle.nor_driver.specs.declared.state.SpiNorFlash.{SpiNorFlash}
+use Rattle.nor_words.specs.Call.{digitsAfter}
+
+abbrev pub bufferOf : Takes → List ℕ → List ℕ
+bufferOf Takes.Nothing room = []
+bufferOf (Takes.Buffer n) room = take n room
+bufferOf (Takes.Data n) room = []
+
+abbrev pub dataOf : Takes → List ℕ → List ℕ
+dataOf Takes.Nothing room = []
+dataOf (Takes.Buffer n) room = []
+dataOf (Takes.Data n) room = take n room
+
+-- "the buffer is filled with CC before the call"
+unfoldable pub filledOf : ℕ → List ℕ → List ℕ
+filledOf n room = deliveredOf room 0 (replicate n 0xCC)
+
+unfoldable pub laidOf : Takes → List ℕ → List ℕ → List ℕ
+laidOf Takes.Nothing line room = room
+laidOf (Takes.Buffer n) line room = filledOf n room
+laidOf (Takes.Data n) line room = deliveredOf room 0 (bytesOf (digitsAfter line))
+
+-- ---- a reply to the action that is out
+
+-- the room as it was
+abbrev pub keptOver : List ℕ → Moved → Moved
+keptOver room m = movedTo (m .stepped) (m .scratch) room
+
+-- the buffer back at the beginning of the room
+abbrev pub backOver : ℕ → List ℕ → Moved → Moved
+backOver n room m = movedTo (m .stepped) (m .scratch) (m .buffer ++ drop n room)
+
+unfoldable pub noneOver : SpiNorFlash → Reply → List ℕ → List ℕ → List ℕ → Moved
+noneOver flash reply bytes scratch room = keptOver room (stepOf flash reply bytes scratch [] [])
+
+unfoldable pub bufferOver : SpiNorFlash → Reply → List ℕ → ℕ → List ℕ → List ℕ → Moved
+bufferOver flash reply bytes n scratch room =
+    pick (leb n (length room)) (backOver n room (stepOf flash reply bytes scratch (take n room) []))
+    (movedTo (refusedOf flash FlashError.Misfit) scratch room)
+
+unfoldable pub dataOver : SpiNorFlash → Reply → List ℕ → ℕ → List ℕ → List ℕ → Moved
+dataOver flash reply bytes n scratch room = keptOver room (stepOf flash reply bytes scratch [] (take n room))
+
+unfoldable pub answeredOver : SpiNorFlash → Reply → List ℕ → Takes → List ℕ → List ℕ → Moved
+answeredOver flash reply bytes Takes.Nothing scratch room = noneOver flash reply bytes scratch room
+answeredOver flash reply bytes (Takes.Buffer n) scratch room = bufferOver flash reply bytes n scratch room
+answeredOver flash reply bytes (Takes.Data n) scratch room = dataOver flash reply bytes n scratch room

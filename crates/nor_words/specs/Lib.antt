@@ -1,0 +1,4 @@
+pub mod Print
+pub mod Call
+pub mod End
+pub mod Lent

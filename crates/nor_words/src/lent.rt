@@ -1,0 +1,132 @@
+// What a NOR call lends: its buffer or its data, at the beginning of the room.
+use case_text::word;
+use nor_driver::state::SpiNorFlash;
+use nor_driver::state::Stepped;
+use nor_driver::step;
+use qspi::bus::Reply;
+use qspi::bytes;
+use spi_flash::error::FlashError;
+use spi_flash::loan::Takes;
+ghost use mathlib.Core.List.{[]};
+ghost use mathlib.Core.Path.{_≡_};
+ghost use Rattle.nor_driver.specs.Step.{movedTo};
+ghost use Rattle.nor_words.specs.Lent.{bufferOf, dataOf, filledOf, laidOf, noneOver, bufferOver, dataOver, answeredOver};
+
+// What the caller's buffer holds before a call.
+const FILL: u8 = 0xCC;
+
+pub fn buffer(takes: Takes, room: &[u8]) -> &[u8]
+    ensures { λ r. ⌜ now r ≡ bufferOf takes (now (room .entry)) ⌝ }
+{
+    match takes {
+        Takes::Nothing => bytes::delivered(room, 0),
+        Takes::Buffer(n) => bytes::delivered(room, n),
+        Takes::Data(_) => bytes::delivered(room, 0),
+    }
+}
+
+pub fn data(takes: Takes, room: &[u8]) -> &[u8]
+    ensures { λ r. ⌜ now r ≡ dataOf takes (now (room .entry)) ⌝ }
+{
+    match takes {
+        Takes::Nothing => bytes::delivered(room, 0),
+        Takes::Buffer(_) => bytes::delivered(room, 0),
+        Takes::Data(n) => bytes::delivered(room, n),
+    }
+}
+
+// A room that is too short keeps every byte.
+fn fill(room: &mut [u8], n: usize)
+    ensures { λ _. ⌜ now (room .exit) ≡ filledOf n (now (room .entry)) ⌝ }
+{
+    if room.len() < n {
+        return;
+    }
+    let mut i = 0;
+    while i < n {
+        room[i] = FILL;
+        i += 1;
+    }
+}
+
+// Lays what the line of a call lends into the room.
+pub fn lay(takes: Takes, line: &[u8], room: &mut [u8])
+    ensures { λ _. ⌜ now (room .exit) ≡ laidOf takes (now (line .entry)) (now (room .entry)) ⌝ }
+{
+    match takes {
+        Takes::Nothing => {}
+        Takes::Buffer(n) => {
+            fill(room, n);
+        }
+        Takes::Data(_) => {
+            word::decode(word::behind(word::last(line), 1), room);
+        }
+    }
+}
+
+// ---- a reply to the action that is out
+
+fn with_none(flash: SpiNorFlash, reply: Reply, bytes: &[u8], scratch: &mut [u8]) -> Stepped
+    ensures { λ r. ⌜ movedTo r (now (scratch .exit)) [] ≡ noneOver flash reply (now (bytes .entry)) (now (scratch .entry)) [] ⌝ }
+{
+    let mut buffer = [0u8; 0];
+    let data = [0u8; 0];
+    step::step(flash, reply, bytes, scratch, &mut buffer, &data)
+}
+
+// A room that is shorter than the buffer that was lent is a misfit.
+fn with_buffer(
+    flash: SpiNorFlash,
+    reply: Reply,
+    bytes: &[u8],
+    n: usize,
+    scratch: &mut [u8],
+    room: &mut [u8],
+) -> Stepped
+    ensures { λ r. ⌜ movedTo r (now (scratch .exit)) (now (room .exit)) ≡ bufferOver flash reply (now (bytes .entry)) n (now (scratch .entry)) (now (room .entry)) ⌝ }
+{
+    let data = [0u8; 0];
+    if n <= room.len() {
+        return step::step(flash, reply, bytes, scratch, &mut room[..n], &data);
+    }
+    step::refused(flash, FlashError::Misfit)
+}
+
+fn with_data(
+    flash: SpiNorFlash,
+    reply: Reply,
+    bytes: &[u8],
+    n: usize,
+    scratch: &mut [u8],
+    room: &[u8],
+) -> Stepped
+    ensures { λ r. ⌜ movedTo r (now (scratch .exit)) (now (room .entry)) ≡ dataOver flash reply (now (bytes .entry)) n (now (scratch .entry)) (now (room .entry)) ⌝ }
+{
+    let mut buffer = [0u8; 0];
+    step::step(
+        flash,
+        reply,
+        bytes,
+        scratch,
+        &mut buffer,
+        bytes::delivered(room, n),
+    )
+}
+
+// Hands a reply to the driver, with what its call takes.
+pub fn answered(
+    flash: SpiNorFlash,
+    reply: Reply,
+    bytes: &[u8],
+    takes: Takes,
+    scratch: &mut [u8],
+    room: &mut [u8],
+) -> Stepped
+    ensures { λ r. ⌜ movedTo r (now (scratch .exit)) (now (room .exit)) ≡ answeredOver flash reply (now (bytes .entry)) takes (now (scratch .entry)) (now (room .entry)) ⌝ }
+{
+    match takes {
+        Takes::Nothing => with_none(flash, reply, bytes, scratch),
+        Takes::Buffer(n) => with_buffer(flash, reply, bytes, n, scratch, room),
+        Takes::Data(n) => with_data(flash, reply, bytes, n, scratch, room),
+    }
+}

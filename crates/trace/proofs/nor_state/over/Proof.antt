@@ -1,0 +1,19 @@
+use mathlib.Core.Path.{refl}
+use Rattle.trace.specs.NorState.{overOf}
+use borrow.Author.Needs.{needs}
+use Rattle.trace.proofs.nor_state.over.Statement.{statement}
+use Rattle.trace.proofs.nor_state.over.Tie as tie
+
+enum-told : tie.Need-enum-told
+enum-told c = search needs
+
+returns : tie.Need-returns
+unfolding overOf
+returns c = simp (c .enum-told .given .1)
+
+returns-2 : tie.Need-returns-2
+unfolding overOf
+returns-2 c = refl
+
+pub over-spec : {M : Type 1} → statement M
+over-spec = tie.close (tie.spec enum-told returns returns-2)

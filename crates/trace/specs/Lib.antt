@@ -1,0 +1,3 @@
+pub mod NorState
+pub mod NorTurn
+pub mod NorCase
