@@ -1,4 +1,5 @@
 pub mod Names
 pub mod Values
+pub mod Given
 pub mod Pieces
 pub mod Filled

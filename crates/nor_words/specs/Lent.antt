@@ -9,7 +9,9 @@ use Rattle.qspi.specs.declared.bus.Reply.{Reply}
 use Rattle.case_text.specs.Number.{bytesOf}
 use Rattle.spi_flash.specs.declared.error.FlashError.{FlashError}
 use Rattle.spi_flash.specs.declared.loan.Takes.{Takes}
+use Rattle.nor_driver.specs.Call.{beginOf}
 use Rattle.nor_driver.specs.Step.{Moved, movedTo, refusedOf, stepOf}
+use Rattle.nor_driver.specs.declared.state.Call.{Call}
 use Rattle.nor_driver.specs.declared.state.SpiNorFlash.{SpiNorFlash}
 use Rattle.nor_words.specs.Call.{digitsAfter}
 
@@ -31,6 +33,11 @@ unfoldable pub laidOf : Takes → List ℕ → List ℕ → List ℕ
 laidOf Takes.Nothing line room = room
 laidOf (Takes.Buffer n) line room = filledOf n room
 laidOf (Takes.Data n) line room = deliveredOf room 0 (bytesOf (digitsAfter line))
+
+-- a call handed to the driver, with what it lends in the room
+unfoldable pub begunOver : SpiNorFlash → Call → Takes → List ℕ → List ℕ → Moved
+begunOver flash call takes scratch room =
+    movedTo (beginOf flash call (length scratch) (length (bufferOf takes room)) (length (dataOf takes room))) scratch room
 
 -- ---- a reply to the action that is out
 

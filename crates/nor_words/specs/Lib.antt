@@ -1,4 +1,5 @@
 pub mod Print
 pub mod Call
-pub mod End
 pub mod Lent
+pub mod End
+pub mod Heard

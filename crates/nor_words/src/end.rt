@@ -1,16 +1,19 @@
-// The lines of a NOR call's end: its number, and the values of its answer or the bus code.
+// The lines of what the NOR's driver gives: an action, or a call's end with its number, its values and how much was delivered.
+use crate::lent;
+use crate::print;
 use lines::line;
 use lines::text;
 use nor_answers::answer::Answer;
 use nor_driver::state::Given;
 use spi_flash::error::FlashError;
+use spi_flash::loan::Takes;
 ghost use mathlib.Core.Path.{_≡_};
 ghost use Rattle.lines.specs.Text.{textOf, appended};
 ghost use Rattle.nor_driver.specs.Answer.{endingOf};
 ghost use Rattle.nor_answers.specs.Answer.{answerValues};
 ghost use Rattle.spi_flash.specs.Error.{errorValues};
 ghost use Rattle.nor_words.specs.Print.{valuesLine};
-ghost use Rattle.nor_words.specs.End.{endingLines};
+ghost use Rattle.nor_words.specs.End.{endingLines, countLine, givenLines};
 
 const VALUES: u8 = 86;
 
@@ -43,7 +46,7 @@ fn error_values(out: &mut [u8], at: usize, error: FlashError) -> usize
 }
 
 // Nothing where the call goes on.
-pub fn ending(out: &mut [u8], at: usize, given: Given) -> usize
+fn ending(out: &mut [u8], at: usize, given: Given) -> usize
     ensures { λ r. ⌜ textOf (now (out .exit)) r ≡ appended (endingLines (endingOf given)) (textOf (now (out .entry)) at) ⌝ }
 {
     match given {
@@ -61,4 +64,34 @@ pub fn ending(out: &mut [u8], at: usize, given: Given) -> usize
             error_values(out, behind, error)
         }
     }
+}
+
+fn count(out: &mut [u8], at: usize, takes: Takes, n: usize) -> usize
+    ensures { λ r. ⌜ textOf (now (out .exit)) r ≡ appended (countLine takes n) (textOf (now (out .entry)) at) ⌝ }
+{
+    match takes {
+        Takes::Nothing => at,
+        Takes::Buffer(_) => print::delivered(out, at, n),
+        Takes::Data(_) => at,
+    }
+}
+
+// The line of an action; or the lines of the call's end, of which n bytes were delivered.
+pub fn given_lines<'a>(
+    out: &mut [u8],
+    at: usize,
+    given: Given,
+    takes: Takes,
+    n: usize,
+    scratch: &'a [u8],
+    room: &'a [u8],
+) -> usize
+    ensures { λ r. ⌜ textOf (now (out .exit)) r ≡ appended (givenLines given takes n (now (scratch .entry)) (now (room .entry))) (textOf (now (out .entry)) at) ⌝ }
+{
+    if let Given::Act(action) = given {
+        let data = lent::data(takes, room);
+        return line::action(out, at, action, scratch, data);
+    }
+    let behind = ending(out, at, given);
+    count(out, behind, takes, n)
 }

@@ -1,5 +1,6 @@
-// What a NOR call lends: its buffer or its data, at the beginning of the room.
+// What a NOR call lends: its buffer or its data, at the beginning of the room; and the driver's calls and steps with it.
 use case_text::word;
+use nor_driver::state::Call;
 use nor_driver::state::SpiNorFlash;
 use nor_driver::state::Stepped;
 use nor_driver::step;
@@ -9,8 +10,9 @@ use spi_flash::error::FlashError;
 use spi_flash::loan::Takes;
 ghost use mathlib.Core.List.{[]};
 ghost use mathlib.Core.Path.{_≡_};
+ghost use lib.ListN.{length};
 ghost use Rattle.nor_driver.specs.Step.{movedTo};
-ghost use Rattle.nor_words.specs.Lent.{bufferOf, dataOf, filledOf, laidOf, noneOver, bufferOver, dataOver, answeredOver};
+ghost use Rattle.nor_words.specs.Lent.{bufferOf, dataOf, filledOf, laidOf, begunOver, noneOver, bufferOver, dataOver, answeredOver};
 
 // What the caller's buffer holds before a call.
 const FILL: u8 = 0xCC;
@@ -50,7 +52,7 @@ fn fill(room: &mut [u8], n: usize)
 }
 
 // Lays what the line of a call lends into the room.
-pub fn lay(takes: Takes, line: &[u8], room: &mut [u8])
+fn lay(takes: Takes, line: &[u8], room: &mut [u8])
     ensures { λ _. ⌜ now (room .exit) ≡ laidOf takes (now (line .entry)) (now (room .entry)) ⌝ }
 {
     match takes {
@@ -62,6 +64,21 @@ pub fn lay(takes: Takes, line: &[u8], room: &mut [u8])
             word::decode(word::behind(word::last(line), 1), room);
         }
     }
+}
+
+// Lays what the call lends into the room, and hands the call to the driver.
+pub fn begin(
+    flash: SpiNorFlash,
+    call: Call,
+    takes: Takes,
+    line: &[u8],
+    scratch: &[u8],
+    room: &mut [u8],
+) -> Stepped
+    ensures { λ r. ⌜ movedTo r (now (scratch .entry)) (now (room .exit)) ≡ begunOver flash call takes (now (scratch .entry)) (laidOf takes (now (line .entry)) (now (room .entry))) ⌝ }
+{
+    lay(takes, line, room);
+    flash.begin(call, scratch, buffer(takes, room), data(takes, room))
 }
 
 // ---- a reply to the action that is out

@@ -1,3 +1,4 @@
 pub mod NorState
+pub mod NorBetween
 pub mod NorTurn
 pub mod NorCase

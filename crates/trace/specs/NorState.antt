@@ -12,6 +12,7 @@ use Rattle.nor_driver.specs.declared.state.Given.{Given}
 use Rattle.nor_driver.specs.declared.state.Stepped.{Stepped}
 use Rattle.trace.specs.declared.nor_state.Lent.{Lent}
 use Rattle.trace.specs.declared.nor_state.Mode.{Mode}
+use Rattle.trace.specs.declared.nor_state.Place.{Place}
 use Rattle.trace.specs.declared.nor_state.Trace.{Trace}
 use Rattle.trace.specs.declared.nor_state.Traced.{Traced}
 
@@ -46,9 +47,14 @@ inMode trace mode = traceOf (trace .stepped) (trace .config) (trace .lent) (trac
 abbrev pub readTo : Trace → ℕ → Trace
 readTo trace next = traceOf (trace .stepped) (trace .config) (trace .lent) next (trace .replies) (trace .mode)
 
--- "Settings may stand between calls and count for the next new"
-abbrev pub configuredAs : Trace → SpiNorConfig → ℕ → Trace
-configuredAs trace config next = traceOf (trace .stepped) config (trace .lent) next false Mode.Reading
+abbrev pub placeOf : SpiNorConfig → ℕ → Bool → Mode → Place
+placeOf config at replies mode = record { config = config; at = at; replies = replies; mode = mode }
+
+abbrev pub placeIn : Trace → Place
+placeIn trace = placeOf (trace .config) (trace .at) (trace .replies) (trace .mode)
+
+abbrev pub placedAt : Trace → Place → Trace
+placedAt trace place = traceOf (trace .stepped) (place .config) (trace .lent) (place .at) (place .replies) (place .mode)
 
 -- a call that is turned away before its first action has not begun
 abbrev pub begunOf : Given → Bool

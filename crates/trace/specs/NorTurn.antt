@@ -3,63 +3,33 @@ use Prim.Native.Nat.{ℕ, _+_, _/_}
 use mathlib.Core.Bool.{Bool, true, false}
 use mathlib.Core.List.{List, []}
 use lib.ListN.{length, take, drop}
-use lib.Dec.{leb, ltb}
+use lib.Dec.{ltb}
 use Rattle.qspi.specs.Bytes.{deliveredOf}
 use Rattle.qspi.specs.Choice.{pick}
-use Rattle.qspi.specs.Shown.{shownOf}
 use Rattle.qspi.specs.declared.bus.Reply.{Reply}
-use Rattle.lines.specs.Line as printed
 use Rattle.lines.specs.Text.{Text, appended}
-use Rattle.case_text.specs.Line.{lineAt, nextOf, lineNumber, readAt}
+use Rattle.case_text.specs.Line.{lineAt, nextOf, lineNumber}
 use Rattle.case_text.specs.Number.{bytesOf}
 use Rattle.case_text.specs.Word.{wordOf}
 use Rattle.case_text.specs.declared.line.Line.{Line}
 use Rattle.spi_flash.specs.declared.error.FlashError.{FlashError}
 use Rattle.spi_flash.specs.declared.loan.Takes.{Takes}
-use Rattle.spi_nor.specs.declared.config.DeviceSetting.{DeviceSetting}
-use Rattle.spi_nor.specs.declared.config.QuadSetting.{QuadSetting}
-use Rattle.nor_driver.specs.Answer.{endingOf}
-use Rattle.nor_driver.specs.Call.{beginOf}
 use Rattle.nor_driver.specs.Step.{Moved, refusedOf}
 use Rattle.nor_driver.specs.declared.state.Given.{Given}
 use Rattle.qspi.specs.Bus.{onBus}
-use Rattle.nor_words.specs.Call.{ownName, quadSetting, deviceSetting, askedOf}
-use Rattle.nor_words.specs.End.{endingLines}
-use Rattle.nor_words.specs.Lent.{bufferOf, dataOf, laidOf, answeredOver}
-use Rattle.trace.specs.NorState.{inMode, readTo, configuredAs, startedOf, gaveTo, countedOf}
-use Rattle.nor_words.specs.Print.{callLine, badLine, deliveredLine, pieceOf}
+use Rattle.nor_words.specs.Call.{askedOf}
+use Rattle.nor_words.specs.End.{givenLines}
+use Rattle.nor_words.specs.Heard.{lineOf, heardOf}
+use Rattle.nor_words.specs.Lent.{bufferOf, laidOf, begunOver, answeredOver}
+use Rattle.nor_words.specs.Print.{callLine, badLine, pieceOf}
 use Rattle.nor_words.specs.declared.call.Asked.{Asked}
+use Rattle.nor_words.specs.declared.heard.Heard.{Heard}
+use Rattle.trace.specs.NorBetween.{betweenAt}
+use Rattle.trace.specs.NorState.{inMode, readTo, placeIn, placedAt, startedOf, gaveTo, countedOf}
 use Rattle.trace.specs.declared.nor_state.Mode.{Mode}
 use Rattle.trace.specs.declared.nor_state.Trace.{Trace}
 
--- the line that begins at a place, in the NOR's words
-unfoldable pub lineOf : List ℕ → ℕ → Line
-lineOf text at = readAt text at ownName
-
 -- ---- a line between two calls
-
-abbrev pub withQuad : Trace → QuadSetting → ℕ → Trace
-withQuad trace quad next = configuredAs trace (record { quad = quad; device = trace .config .device }) next
-
-abbrev pub withDevice : Trace → DeviceSetting → ℕ → Trace
-withDevice trace device next = configuredAs trace (record { quad = trace .config .quad; device = device }) next
-
--- "Replies left when a call ends are passed over"; elsewhere a reply does not follow the page
-unfoldable pub leftOver : Trace → ℕ → Trace
-leftOver trace next = pick (trace .replies) (readTo trace next) (inMode trace Mode.Bad)
-
-unfoldable pub betweenOf : Trace → Line → ℕ → Trace
-betweenOf trace Line.End next = inMode trace Mode.Over
-betweenOf trace Line.Passed next = readTo trace next
-betweenOf trace Line.Done next = leftOver trace next
-betweenOf trace Line.Data next = leftOver trace next
-betweenOf trace (Line.BusError code) next = leftOver trace next
-betweenOf trace Line.NoQuad next = withQuad trace QuadSetting.Single next
-betweenOf trace (Line.Quad q) next = withQuad trace (quadSetting q) next
-betweenOf trace Line.NoOwn next = withDevice trace DeviceSetting.Detect next
-betweenOf trace (Line.Own n) next = withDevice trace (deviceSetting n) next
-betweenOf trace Line.Call next = trace
-betweenOf trace Line.Bad next = inMode trace Mode.Bad
 
 -- a trace, the room and what was printed, after a line
 pub record Called : Type 0 where
@@ -71,21 +41,19 @@ abbrev pub calledTo : Trace → List ℕ → Text → Called
 calledTo trace room text = record { trace = trace; room = room; text = text }
 
 -- "For each call: call and its name"; a line that follows no rule is bad
-abbrev pub calledAt : Asked → Trace → List ℕ → ℕ → ℕ → List ℕ → Text → Called
-calledAt (Asked.Begin call takes) trace line next s room out =
-    calledTo
-    (startedOf trace
-    (beginOf (trace .stepped .flash) call s
-    (length (bufferOf takes (laidOf takes line room)))
-    (length (dataOf takes (laidOf takes line room))))
-    takes next)
-    (laidOf takes line room)
-    (appended (callLine (wordOf 1 line)) out)
-calledAt Asked.Bad trace line next s room out = calledTo (inMode trace Mode.Bad) room out
+abbrev pub calledThen : Trace → Takes → ℕ → Moved → Text → Called
+calledThen trace takes next m out = calledTo (startedOf trace (m .stepped) takes next) (m .buffer) out
 
-unfoldable pub calledOf : Trace → List ℕ → ℕ → List ℕ → Text → Called
-calledOf trace text s room out =
-    calledAt (askedOf (lineAt text (trace .at)) (trace .config) (length room)) trace (lineAt text (trace .at)) (nextOf text (trace .at)) s room out
+abbrev pub calledAt : Asked → Trace → List ℕ → ℕ → List ℕ → List ℕ → Text → Called
+calledAt (Asked.Begin call takes) trace line next scratch room out =
+    calledThen trace takes next
+    (begunOver (trace .stepped .flash) call takes scratch (laidOf takes line room))
+    (appended (callLine (wordOf 1 line)) out)
+calledAt Asked.Bad trace line next scratch room out = calledTo (inMode trace Mode.Bad) room out
+
+unfoldable pub calledOf : Trace → List ℕ → List ℕ → List ℕ → Text → Called
+calledOf trace text scratch room out =
+    calledAt (askedOf (lineAt text (trace .at)) (trace .config) (length room)) trace (lineAt text (trace .at)) (nextOf text (trace .at)) scratch room out
 
 abbrev pub isCall : Line → Bool
 isCall Line.End = false
@@ -100,10 +68,10 @@ isCall (Line.Own n) = false
 isCall Line.Call = true
 isCall Line.Bad = false
 
-unfoldable pub readingOf : Trace → List ℕ → ℕ → List ℕ → Text → Called
-readingOf trace text s room out =
-    pick (isCall (lineOf text (trace .at))) (calledOf trace text s room out)
-    (calledTo (betweenOf trace (lineOf text (trace .at)) (nextOf text (trace .at))) room out)
+unfoldable pub readingOf : Trace → List ℕ → List ℕ → List ℕ → Text → Called
+readingOf trace text scratch room out =
+    pick (isCall (lineOf text (trace .at))) (calledOf trace text scratch room out)
+    (calledTo (placedAt trace (betweenAt (placeIn trace) (lineOf text (trace .at)) (nextOf text (trace .at)))) room out)
 
 -- ---- what the driver has given
 
@@ -116,33 +84,34 @@ abbrev pub printedTo : Trace → Text → Printed
 printedTo trace text = record { trace = trace; text = text }
 
 -- "for a call with a buffer: G and the number of bytes delivered; B and the whole buffer"
-abbrev pub endedThen : Takes → Trace → Text → Printed
-endedThen Takes.Nothing trace out = printedTo (inMode trace Mode.Reading) out
-endedThen (Takes.Buffer n) trace out = printedTo (inMode trace (Mode.Showing 0)) (appended (deliveredLine (countedOf trace)) out)
-endedThen (Takes.Data n) trace out = printedTo (inMode trace Mode.Reading) out
+abbrev pub endMode : Takes → Mode
+endMode Takes.Nothing = Mode.Reading
+endMode (Takes.Buffer n) = Mode.Showing 0
+endMode (Takes.Data n) = Mode.Reading
 
-unfoldable pub endedOf : Trace → Text → Printed
-endedOf trace out = endedThen (trace .lent .takes) trace (appended (endingLines (endingOf (trace .stepped .given))) out)
-
--- "then a line for each action given out"
-abbrev pub givingAt : Given → Trace → List ℕ → List ℕ → Text → Printed
-givingAt (Given.Act action) trace scratch room out =
-    printedTo (inMode trace Mode.Awaiting) (appended (printed.lineOf (shownOf action scratch (dataOf (trace .lent .takes) room))) out)
-givingAt (Given.Ended answer) trace scratch room out = endedOf trace out
-givingAt (Given.Failed error) trace scratch room out = endedOf trace out
-givingAt (Given.Refused error) trace scratch room out = endedOf trace out
+abbrev pub givenMode : Given → Takes → Mode
+givenMode (Given.Act action) takes = Mode.Awaiting
+givenMode (Given.Ended answer) takes = endMode takes
+givenMode (Given.Failed error) takes = endMode takes
+givenMode (Given.Refused error) takes = endMode takes
 
 unfoldable pub givingOf : Trace → List ℕ → List ℕ → Text → Printed
-givingOf trace scratch room out = givingAt (trace .stepped .given) trace scratch room out
+givingOf trace scratch room out =
+    printedTo
+    (inMode trace (givenMode (trace .stepped .given) (trace .lent .takes)))
+    (appended (givenLines (trace .stepped .given) (trace .lent .takes) (countedOf trace) scratch room) out)
 
 abbrev pub shownTo : Bool → ℕ → Mode
 shownTo true from = Mode.Showing (from + 16384)
 shownTo false from = Mode.Reading
 
+abbrev pub shownMode : ℕ → ℕ → Mode
+shownMode len from = shownTo (ltb (from + 16384) len) from
+
 unfoldable pub showingOf : Trace → ℕ → List ℕ → Text → Printed
 showingOf trace from room out =
     printedTo
-    (inMode trace (shownTo (ltb (from + 16384) (length (bufferOf (trace .lent .takes) room))) from))
+    (inMode trace (shownMode (length (bufferOf (trace .lent .takes) room)) from))
     (appended (pieceOf (bufferOf (trace .lent .takes) room) from) out)
 
 -- ---- a reply to the action that is out
@@ -188,33 +157,19 @@ dataReply trace line next scratch room reply =
     (repliedWith (deliveredOf reply 0 (bytesOf (drop 1 line)))
     (answeredOf trace Reply.Data (take (length (drop 1 line) / 2) (deliveredOf reply 0 (bytesOf (drop 1 line)))) next scratch room))
 
-abbrev pub waitsAt : Asked → Trace → Trace
-waitsAt (Asked.Begin call takes) trace = stoppedOf trace FlashError.TapeSpent (trace .at)
-waitsAt Asked.Bad trace = inMode trace Mode.Bad
-
-unfoldable pub callWaits : Trace → List ℕ → ℕ → Trace
-callWaits trace line room = waitsAt (askedOf line (trace .config) room) trace
-
 -- "then its replies, one a line, for each bus action in turn"
-abbrev pub repliedAt : Line → Trace → List ℕ → List ℕ → List ℕ → List ℕ → Replied
-repliedAt Line.End trace text scratch room reply = repliedTo (stoppedOf trace FlashError.TapeSpent (trace .at)) scratch room reply
-repliedAt Line.Passed trace text scratch room reply = repliedTo (readTo trace (nextOf text (trace .at))) scratch room reply
-repliedAt Line.Done trace text scratch room reply =
-    repliedWith reply (answeredOf trace Reply.Done [] (nextOf text (trace .at)) scratch room)
-repliedAt Line.Data trace text scratch room reply =
+abbrev pub repliedAt : Heard → Trace → List ℕ → List ℕ → List ℕ → List ℕ → Replied
+repliedAt Heard.Passed trace text scratch room reply = repliedTo (readTo trace (nextOf text (trace .at))) scratch room reply
+repliedAt (Heard.Reply given) trace text scratch room reply =
+    repliedWith reply (answeredOf trace given [] (nextOf text (trace .at)) scratch room)
+repliedAt Heard.Bytes trace text scratch room reply =
     dataReply trace (lineAt text (trace .at)) (nextOf text (trace .at)) scratch room reply
-repliedAt (Line.BusError code) trace text scratch room reply =
-    repliedWith reply (answeredOf trace (Reply.Error code) [] (nextOf text (trace .at)) scratch room)
-repliedAt Line.NoQuad trace text scratch room reply = repliedTo (stoppedOf trace FlashError.TapeSpent (trace .at)) scratch room reply
-repliedAt (Line.Quad q) trace text scratch room reply = repliedTo (stoppedOf trace FlashError.TapeSpent (trace .at)) scratch room reply
-repliedAt Line.NoOwn trace text scratch room reply = repliedTo (stoppedOf trace FlashError.TapeSpent (trace .at)) scratch room reply
-repliedAt (Line.Own n) trace text scratch room reply = repliedTo (stoppedOf trace FlashError.TapeSpent (trace .at)) scratch room reply
-repliedAt Line.Call trace text scratch room reply =
-    repliedTo (callWaits trace (lineAt text (trace .at)) (length room)) scratch room reply
-repliedAt Line.Bad trace text scratch room reply = repliedTo (inMode trace Mode.Bad) scratch room reply
+repliedAt Heard.Spent trace text scratch room reply = repliedTo (stoppedOf trace FlashError.TapeSpent (trace .at)) scratch room reply
+repliedAt Heard.Bad trace text scratch room reply = repliedTo (inMode trace Mode.Bad) scratch room reply
 
 unfoldable pub repliedOf : Trace → List ℕ → List ℕ → List ℕ → List ℕ → Replied
-repliedOf trace text scratch room reply = repliedAt (lineOf text (trace .at)) trace text scratch room reply
+repliedOf trace text scratch room reply =
+    repliedAt (heardOf text (trace .at) (trace .config) (length room)) trace text scratch room reply
 
 -- "Select and delay are answered done without a line"
 abbrev pub awaitingAt : Given → Trace → List ℕ → List ℕ → List ℕ → List ℕ → Replied
@@ -255,7 +210,7 @@ abbrev pub turnedReplied : Text → Replied → Turned
 turnedReplied out a = turnedTo (a .trace) (a .scratch) (a .room) (a .reply) out
 
 abbrev pub advancedAt : Mode → Trace → List ℕ → List ℕ → List ℕ → List ℕ → Text → Turned
-advancedAt Mode.Reading trace text scratch room reply out = turnedCalled scratch reply (readingOf trace text (length scratch) room out)
+advancedAt Mode.Reading trace text scratch room reply out = turnedCalled scratch reply (readingOf trace text scratch room out)
 advancedAt Mode.Giving trace text scratch room reply out = turnedPrinted scratch room reply (givingOf trace scratch room out)
 advancedAt Mode.Awaiting trace text scratch room reply out = turnedReplied out (awaitingOf trace text scratch room reply)
 advancedAt (Mode.Showing from) trace text scratch room reply out = turnedPrinted scratch room reply (showingOf trace from room out)

@@ -7,7 +7,7 @@ use spi_flash::error::FlashError;
 use spi_flash::loan::Takes;
 use spi_nor::config::SpiNorConfig;
 ghost use mathlib.Core.Path.{_≡_};
-ghost use Rattle.trace.specs.NorState.{traceOf, startOf, overOf, tracedAt, inMode, readTo, configuredAs, begunOf, startedOf, gaveTo, countedOf};
+ghost use Rattle.trace.specs.NorState.{traceOf, startOf, overOf, tracedAt, inMode, readTo, placeIn, placedAt, begunOf, startedOf, gaveTo, countedOf};
 
 // What the next turn does.
 pub enum Mode {
@@ -41,6 +41,14 @@ pub struct Trace {
     // The position of the next line.
     pub at: usize,
     // A reply may stand there: a call or another reply came last.
+    pub replies: bool,
+    pub mode: Mode,
+}
+
+// What a line between two calls changes.
+pub struct Place {
+    pub config: SpiNorConfig,
+    pub at: usize,
     pub replies: bool,
     pub mode: Mode,
 }
@@ -124,13 +132,27 @@ pub fn read_to(trace: Trace, next: usize) -> Trace
     trace_of(stepped, config, lent, next, trace.replies, mode)
 }
 
-// A setting has been taken: no reply follows it.
-pub fn configured(trace: Trace, config: SpiNorConfig, next: usize) -> Trace
-    ensures { λ r. ⌜ r ≡ configuredAs trace config next ⌝ }
+pub fn place_of(trace: Trace) -> Place
+    ensures { λ r. ⌜ r ≡ placeIn trace ⌝ }
+{
+    let config = trace.config;
+    let mode = trace.mode;
+    Place {
+        config: config,
+        at: trace.at,
+        replies: trace.replies,
+        mode: mode,
+    }
+}
+
+pub fn placed(trace: Trace, place: Place) -> Trace
+    ensures { λ r. ⌜ r ≡ placedAt trace place ⌝ }
 {
     let stepped = trace.stepped;
     let lent = trace.lent;
-    trace_of(stepped, config, lent, next, false, Mode::Reading)
+    let config = place.config;
+    let mode = place.mode;
+    trace_of(stepped, config, lent, place.at, place.replies, mode)
 }
 
 fn has_begun(given: Given) -> bool

@@ -1,4 +1,5 @@
 // One turn of a NOR's trace: a line taken, an action or an end printed, a reply handed over.
+use crate::nor_between;
 use crate::nor_state;
 use crate::nor_state::Mode;
 use crate::nor_state::Trace;
@@ -11,6 +12,8 @@ use nor_driver::step;
 use nor_words::call;
 use nor_words::call::Asked;
 use nor_words::end;
+use nor_words::heard;
+use nor_words::heard::Heard;
 use nor_words::lent;
 use nor_words::print;
 use qspi::bus;
@@ -18,81 +21,11 @@ use qspi::bus::Reply;
 use qspi::bytes;
 use spi_flash::error::FlashError;
 use spi_flash::loan::Takes;
-use spi_nor::config::DeviceSetting;
-use spi_nor::config::QuadSetting;
-use spi_nor::config::SpiNorConfig;
 ghost use mathlib.Core.Path.{_≡_};
-ghost use lib.ListN.{length};
 ghost use Rattle.lines.specs.Text.{textOf};
-ghost use Rattle.trace.specs.NorTurn.{lineOf, withQuad, withDevice, leftOver, betweenOf, calledTo, calledOf, readingOf, printedTo, endedOf, givingOf, showingOf, answeredTo, answeredOf, stoppedOf, repliedTo, dataReply, callWaits, repliedOf, awaitingOf, badOf, turnedTo, advancedOf};
-
-// The line that begins at a place, in the NOR's words.
-fn line_of(text: &[u8], at: usize) -> Line
-    ensures { λ r. ⌜ r ≡ lineOf (now (text .entry)) at ⌝ }
-{
-    line::read_at(text, at, b"device")
-}
+ghost use Rattle.trace.specs.NorTurn.{calledTo, calledOf, readingOf, printedTo, givenMode, givingOf, shownMode, showingOf, answeredTo, answeredOf, stoppedOf, repliedTo, dataReply, repliedOf, awaitingOf, badOf, turnedTo, advancedOf};
 
 // ---- a line between two calls
-
-fn with_quad(trace: Trace, quad: QuadSetting, next: usize) -> Trace
-    ensures { λ r. ⌜ r ≡ withQuad trace quad next ⌝ }
-{
-    let config = trace.config;
-    let device = config.device;
-    nor_state::configured(
-        trace,
-        SpiNorConfig {
-            quad: quad,
-            device: device,
-        },
-        next,
-    )
-}
-
-fn with_device(trace: Trace, device: DeviceSetting, next: usize) -> Trace
-    ensures { λ r. ⌜ r ≡ withDevice trace device next ⌝ }
-{
-    let config = trace.config;
-    let quad = config.quad;
-    nor_state::configured(
-        trace,
-        SpiNorConfig {
-            quad: quad,
-            device: device,
-        },
-        next,
-    )
-}
-
-// Replies left when a call ends are passed over. Where no call came before, a reply is bad.
-fn left_over(trace: Trace, next: usize) -> Trace
-    ensures { λ r. ⌜ r ≡ leftOver trace next ⌝ }
-{
-    if trace.replies {
-        return nor_state::read_to(trace, next);
-    }
-    nor_state::in_mode(trace, Mode::Bad)
-}
-
-// Any line but a call.
-fn between(trace: Trace, line: Line, next: usize) -> Trace
-    ensures { λ r. ⌜ r ≡ betweenOf trace line next ⌝ }
-{
-    match line {
-        Line::End => nor_state::in_mode(trace, Mode::Over),
-        Line::Passed => nor_state::read_to(trace, next),
-        Line::Done => left_over(trace, next),
-        Line::Data => left_over(trace, next),
-        Line::BusError(_) => left_over(trace, next),
-        Line::NoQuad => with_quad(trace, QuadSetting::Single, next),
-        Line::Quad(quad) => with_quad(trace, call::quad_setting(quad), next),
-        Line::NoOwn => with_device(trace, DeviceSetting::Detect, next),
-        Line::Own(own) => with_device(trace, call::device_setting(own), next),
-        Line::Call => trace,
-        Line::Bad => nor_state::in_mode(trace, Mode::Bad),
-    }
-}
 
 // Begins the call of the next line, and prints its name.
 fn called(
@@ -103,7 +36,7 @@ fn called(
     out: &mut [u8],
     at: usize,
 ) -> Traced
-    ensures { λ r. ⌜ calledTo (r .trace) (now (room .exit)) (textOf (now (out .exit)) (r .at)) ≡ calledOf trace (now (text .entry)) (length (now (scratch .entry))) (now (room .entry)) (textOf (now (out .entry)) at) ⌝ }
+    ensures { λ r. ⌜ calledTo (r .trace) (now (room .exit)) (textOf (now (out .exit)) (r .at)) ≡ calledOf trace (now (text .entry)) (now (scratch .entry)) (now (room .entry)) (textOf (now (out .entry)) at) ⌝ }
 {
     let from = trace.at;
     let config = trace.config;
@@ -112,14 +45,8 @@ fn called(
     let line = line::line_at(text, from);
     match call::asked_by(line, config, room.len()) {
         Asked::Begin { call, takes } => {
+            let begun = lent::begin(flash, call, takes, line, scratch, room);
             let behind = print::call(out, at, word::word(line, 1));
-            lent::lay(takes, line, room);
-            let begun = flash.begin(
-                call,
-                scratch,
-                lent::buffer(takes, room),
-                lent::data(takes, room),
-            );
             let next = line::next_line(text, from);
             nor_state::traced_at(nor_state::started(trace, begun, takes, next), behind)
         }
@@ -135,35 +62,31 @@ fn reading(
     out: &mut [u8],
     at: usize,
 ) -> Traced
-    ensures { λ r. ⌜ calledTo (r .trace) (now (room .exit)) (textOf (now (out .exit)) (r .at)) ≡ readingOf trace (now (text .entry)) (length (now (scratch .entry))) (now (room .entry)) (textOf (now (out .entry)) at) ⌝ }
+    ensures { λ r. ⌜ calledTo (r .trace) (now (room .exit)) (textOf (now (out .exit)) (r .at)) ≡ readingOf trace (now (text .entry)) (now (scratch .entry)) (now (room .entry)) (textOf (now (out .entry)) at) ⌝ }
 {
     let from = trace.at;
-    let line = line_of(text, from);
+    let line = heard::line_of(text, from);
     if let Line::Call = line {
         return called(trace, text, scratch, room, out, at);
     }
     let next = line::next_line(text, from);
-    nor_state::traced_at(between(trace, line, next), at)
+    let place = nor_between::between(nor_state::place_of(trace), line, next);
+    nor_state::traced_at(nor_state::placed(trace, place), at)
 }
 
 // ---- what the driver has given
 
-// The number and the values; then, of a call with a buffer, how many bytes were delivered.
-fn ended(trace: Trace, out: &mut [u8], at: usize) -> Traced
-    ensures { λ r. ⌜ printedTo (r .trace) (textOf (now (out .exit)) (r .at)) ≡ endedOf trace (textOf (now (out .entry)) at) ⌝ }
+// The buffer of a call is shown behind its end.
+fn given_mode(given: Given, takes: Takes) -> Mode
+    ensures { λ r. ⌜ r ≡ givenMode given takes ⌝ }
 {
-    let stepped = trace.stepped;
-    let given = stepped.given;
-    let lent = trace.lent;
-    let takes = lent.takes;
-    let behind = end::ending(out, at, given);
+    if let Given::Act(_) = given {
+        return Mode::Awaiting;
+    }
     match takes {
-        Takes::Nothing => nor_state::traced_at(nor_state::in_mode(trace, Mode::Reading), behind),
-        Takes::Buffer(_) => {
-            let end = print::delivered(out, behind, nor_state::counted(trace));
-            nor_state::traced_at(nor_state::in_mode(trace, Mode::Showing(0)), end)
-        }
-        Takes::Data(_) => nor_state::traced_at(nor_state::in_mode(trace, Mode::Reading), behind),
+        Takes::Nothing => Mode::Reading,
+        Takes::Buffer(_) => Mode::Showing(0),
+        Takes::Data(_) => Mode::Reading,
     }
 }
 
@@ -174,16 +97,18 @@ fn giving<'a>(trace: Trace, scratch: &'a [u8], room: &'a [u8], out: &mut [u8], a
     let given = stepped.given;
     let lent = trace.lent;
     let takes = lent.takes;
-    match given {
-        Given::Act(action) => {
-            let data = lent::data(takes, room);
-            let behind = lines::line::action(out, at, action, scratch, data);
-            nor_state::traced_at(nor_state::in_mode(trace, Mode::Awaiting), behind)
-        }
-        Given::Ended(_) => ended(trace, out, at),
-        Given::Failed(_) => ended(trace, out, at),
-        Given::Refused(_) => ended(trace, out, at),
+    let n = nor_state::counted(trace);
+    let behind = end::given_lines(out, at, given, takes, n, scratch, room);
+    nor_state::traced_at(nor_state::in_mode(trace, given_mode(given, takes)), behind)
+}
+
+fn shown_mode(len: usize, from: usize) -> Mode
+    ensures { λ r. ⌜ r ≡ shownMode len from ⌝ }
+{
+    if print::more(len, from) {
+        return Mode::Showing(from + print::PIECE);
     }
+    Mode::Reading
 }
 
 fn showing(trace: Trace, from: usize, room: &[u8], out: &mut [u8], at: usize) -> Traced
@@ -193,13 +118,8 @@ fn showing(trace: Trace, from: usize, room: &[u8], out: &mut [u8], at: usize) ->
     let takes = lent.takes;
     let buffer = lent::buffer(takes, room);
     let behind = print::piece(out, at, buffer, from);
-    if print::more(buffer.len(), from) {
-        return nor_state::traced_at(
-            nor_state::in_mode(trace, Mode::Showing(from + print::PIECE)),
-            behind,
-        );
-    }
-    nor_state::traced_at(nor_state::in_mode(trace, Mode::Reading), behind)
+    let mode = shown_mode(buffer.len(), from);
+    nor_state::traced_at(nor_state::in_mode(trace, mode), behind)
 }
 
 // ---- a reply to the action that is out
@@ -257,17 +177,6 @@ fn data_reply(
     )
 }
 
-// A call where a reply is awaited: no reply is left, unless the line is bad.
-fn call_waits(trace: Trace, line: &[u8], room_len: usize) -> Trace
-    ensures { λ r. ⌜ r ≡ callWaits trace (now (line .entry)) «room_len» ⌝ }
-{
-    let config = trace.config;
-    match call::asked_by(line, config, room_len) {
-        Asked::Begin { call: _, takes: _ } => stopped(trace, FlashError::TapeSpent, trace.at),
-        Asked::Bad => nor_state::in_mode(trace, Mode::Bad),
-    }
-}
-
 // The reply in the next line.
 fn replied(
     trace: Trace,
@@ -279,20 +188,17 @@ fn replied(
     ensures { λ r. ⌜ repliedTo r (now (scratch .exit)) (now (room .exit)) (now (reply .exit)) ≡ repliedOf trace (now (text .entry)) (now (scratch .entry)) (now (room .entry)) (now (reply .entry)) ⌝ }
 {
     let from = trace.at;
+    let config = trace.config;
     let next = line::next_line(text, from);
-    let nothing = [0u8; 0];
-    match line_of(text, from) {
-        Line::End => stopped(trace, FlashError::TapeSpent, from),
-        Line::Passed => nor_state::read_to(trace, next),
-        Line::Done => answered(trace, Reply::Done, &nothing, next, scratch, room),
-        Line::Data => data_reply(trace, line::line_at(text, from), next, scratch, room, reply),
-        Line::BusError(code) => answered(trace, Reply::Error(code), &nothing, next, scratch, room),
-        Line::NoQuad => stopped(trace, FlashError::TapeSpent, from),
-        Line::Quad(_) => stopped(trace, FlashError::TapeSpent, from),
-        Line::NoOwn => stopped(trace, FlashError::TapeSpent, from),
-        Line::Own(_) => stopped(trace, FlashError::TapeSpent, from),
-        Line::Call => call_waits(trace, line::line_at(text, from), room.len()),
-        Line::Bad => nor_state::in_mode(trace, Mode::Bad),
+    match heard::heard_at(text, from, config, room.len()) {
+        Heard::Passed => nor_state::read_to(trace, next),
+        Heard::Reply(given) => {
+            let nothing = [0u8; 0];
+            answered(trace, given, &nothing, next, scratch, room)
+        }
+        Heard::Bytes => data_reply(trace, line::line_at(text, from), next, scratch, room, reply),
+        Heard::Spent => stopped(trace, FlashError::TapeSpent, from),
+        Heard::Bad => nor_state::in_mode(trace, Mode::Bad),
     }
 }
 

@@ -1,3 +1,4 @@
+use Rattle.trace.proofs.Others.{not-over}
 use mathlib.Core.Path.{refl}
 use Rattle.trace.specs.NorState.{overOf}
 use borrow.Author.Needs.{needs}
@@ -13,7 +14,7 @@ returns c = simp (c .enum-told .given .1)
 
 returns-2 : tie.Need-returns-2
 unfolding overOf
-returns-2 c = refl
+returns-2 c = not-over (c .before .args .trace .mode) (c .match .keys2)
 
 pub over-spec : {M : Type 1} → statement M
 over-spec = tie.close (tie.spec enum-told returns returns-2)

@@ -15,7 +15,7 @@ trace-of-requires : tie.Need-trace-of-requires
 trace-of-requires c κs = search needs
 
 returns : tie.Need-returns
-returns c = simp (← c .trace-of .ensures, ← c .before .single .ensures, ← c .before .before .refused .ensures, ← c .before .before .before .not-built .ensures)
+returns c = simp (c .trace-of .ensures, c .before .single .ensures, c .before .before .refused .ensures, c .before .before .before .not-built .ensures)
 
 pub start-spec : {M : Type 1} → statement M
 start-spec =

@@ -9,7 +9,7 @@ trace-of-requires : tie.Need-trace-of-requires
 trace-of-requires c κs = search needs
 
 returns : tie.Need-returns
-returns c = simp (← c .trace-of .ensures, ← c .before .has-begun .ensures)
+returns c = simp (c .trace-of .ensures, c .before .has-begun .ensures)
 
 pub started-spec : {M : Type 1} → statement M
 started-spec = tie.close (tie.spec has-begun-requires trace-of-requires returns)

@@ -1,0 +1,3 @@
+pub mod Others
+pub mod Budget
+pub mod Turns
