@@ -1,7 +1,7 @@
 // Prints the trace of the NOR case on standard input.
+use nor_turns::state;
 use qspi::bytes;
 use trace::nor_case;
-use trace::nor_state;
 use trace::nor_turn;
 
 const STDIN: i32 = 0;
@@ -21,11 +21,11 @@ fn main() {
     // No turn prints more than a piece of a buffer: two characters for each of 16,384 bytes, B, a blank and the line feed. The
     // line of an action has 512 bytes at most, the longest page that a construction takes.
     let mut out = [0u8; 32800];
-    let mut now = nor_state::start();
+    let mut now = state::start();
     let most = nor_case::budget(text.len(), room.len());
     let mut i = 0;
     while i < most {
-        if nor_state::over(now) {
+        if state::over(now) {
             return;
         }
         let next = nor_turn::advance(now, text, &mut scratch, &mut room, &mut reply, &mut out, 0);

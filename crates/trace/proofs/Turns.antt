@@ -6,10 +6,10 @@ use mathlib.Core.List.{List}
 use lib.ListN.{length, replicate}
 use mathlib.Core.Path.{_≡_, refl}
 use Rattle.lines.specs.Text.{textOf}
-use Rattle.trace.specs.NorState.{startOf, overOf}
+use Rattle.nor_turns.specs.State.{startOf, overOf}
 use Rattle.trace.specs.NorTurn.{Turned, turnedTo}
 use Rattle.trace.specs.NorCase.{budgetOf, turnAfter, turnsOf, caseOf}
-use Rattle.trace.specs.declared.nor_state.Trace.{Trace}
+use Rattle.nor_turns.specs.declared.state.Trace.{Trace}
 
 pub turn-taken : (most i : ℕ) (text : List ℕ) (t : Turned) → i < most → overOf (t .trace) ≡ false →
     turnsOf (most - (i + 1)) text (turnAfter text t) ≡ turnsOf (most - i) text t

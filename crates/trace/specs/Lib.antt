@@ -1,4 +1,2 @@
-pub mod NorState
-pub mod NorBetween
 pub mod NorTurn
 pub mod NorCase

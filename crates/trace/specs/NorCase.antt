@@ -5,7 +5,7 @@ use lib.ListN.{length, replicate}
 use lib.Dec.{leb}
 use Rattle.qspi.specs.Choice.{pick}
 use Rattle.lines.specs.Text.{Text, textOf}
-use Rattle.trace.specs.NorState.{startOf, overOf}
+use Rattle.nor_turns.specs.State.{startOf, overOf}
 use Rattle.trace.specs.NorTurn.{Turned, turnedTo, advancedOf}
 
 abbrev pub atMost : ℕ → ℕ → ℕ

@@ -1,118 +1,26 @@
--- One turn of a NOR's trace.
-use Prim.Native.Nat.{ℕ, _+_, _/_}
-use mathlib.Core.Bool.{Bool, true, false}
+-- Any turn of a NOR's trace, and those that answer the action that is out.
+use Prim.Native.Nat.{ℕ, _/_}
 use mathlib.Core.List.{List, []}
 use lib.ListN.{length, take, drop}
 use lib.Dec.{ltb}
 use Rattle.qspi.specs.Bytes.{deliveredOf}
 use Rattle.qspi.specs.Choice.{pick}
 use Rattle.qspi.specs.declared.bus.Reply.{Reply}
-use Rattle.lines.specs.Text.{Text, appended}
-use Rattle.case_text.specs.Line.{lineAt, nextOf, lineNumber}
+use Rattle.lines.specs.Text.{Text}
+use Rattle.case_text.specs.Line.{lineAt, nextOf}
 use Rattle.case_text.specs.Number.{bytesOf}
-use Rattle.case_text.specs.Word.{wordOf}
-use Rattle.case_text.specs.declared.line.Line.{Line}
 use Rattle.spi_flash.specs.declared.error.FlashError.{FlashError}
-use Rattle.spi_flash.specs.declared.loan.Takes.{Takes}
 use Rattle.nor_driver.specs.Step.{Moved, refusedOf}
 use Rattle.nor_driver.specs.declared.state.Given.{Given}
 use Rattle.qspi.specs.Bus.{onBus}
-use Rattle.nor_words.specs.Call.{askedOf}
-use Rattle.nor_words.specs.End.{givenLines}
-use Rattle.nor_words.specs.Heard.{lineOf, heardOf}
-use Rattle.nor_words.specs.Lent.{bufferOf, laidOf, begunOver, answeredOver}
-use Rattle.nor_words.specs.Print.{callLine, badLine, pieceOf}
-use Rattle.nor_words.specs.declared.call.Asked.{Asked}
+use Rattle.nor_words.specs.Heard.{heardOf}
+use Rattle.nor_words.specs.Lent.{answeredOver}
 use Rattle.nor_words.specs.declared.heard.Heard.{Heard}
-use Rattle.trace.specs.NorBetween.{betweenAt}
-use Rattle.trace.specs.NorState.{inMode, readTo, placeIn, placedAt, startedOf, gaveTo, countedOf}
-use Rattle.trace.specs.declared.nor_state.Mode.{Mode}
-use Rattle.trace.specs.declared.nor_state.Trace.{Trace}
-
--- ---- a line between two calls
-
--- a trace, the room and what was printed, after a line
-pub record Called : Type 0 where
-  pub trace : Trace
-  pub room : List ℕ
-  pub text : Text
-
-abbrev pub calledTo : Trace → List ℕ → Text → Called
-calledTo trace room text = record { trace = trace; room = room; text = text }
-
--- "For each call: call and its name"; a line that follows no rule is bad
-abbrev pub calledThen : Trace → Takes → ℕ → Moved → Text → Called
-calledThen trace takes next m out = calledTo (startedOf trace (m .stepped) takes next) (m .buffer) out
-
-abbrev pub calledAt : Asked → Trace → List ℕ → ℕ → List ℕ → List ℕ → Text → Called
-calledAt (Asked.Begin call takes) trace line next scratch room out =
-    calledThen trace takes next
-    (begunOver (trace .stepped .flash) call takes scratch (laidOf takes line room))
-    (appended (callLine (wordOf 1 line)) out)
-calledAt Asked.Bad trace line next scratch room out = calledTo (inMode trace Mode.Bad) room out
-
-unfoldable pub calledOf : Trace → List ℕ → List ℕ → List ℕ → Text → Called
-calledOf trace text scratch room out =
-    calledAt (askedOf (lineAt text (trace .at)) (trace .config) (length room)) trace (lineAt text (trace .at)) (nextOf text (trace .at)) scratch room out
-
-abbrev pub isCall : Line → Bool
-isCall Line.End = false
-isCall Line.Passed = false
-isCall Line.Done = false
-isCall Line.Data = false
-isCall (Line.BusError code) = false
-isCall Line.NoQuad = false
-isCall (Line.Quad q) = false
-isCall Line.NoOwn = false
-isCall (Line.Own n) = false
-isCall Line.Call = true
-isCall Line.Bad = false
-
-unfoldable pub readingOf : Trace → List ℕ → List ℕ → List ℕ → Text → Called
-readingOf trace text scratch room out =
-    pick (isCall (lineOf text (trace .at))) (calledOf trace text scratch room out)
-    (calledTo (placedAt trace (betweenAt (placeIn trace) (lineOf text (trace .at)) (nextOf text (trace .at)))) room out)
-
--- ---- what the driver has given
-
--- a trace and what was printed
-pub record Printed : Type 0 where
-  pub trace : Trace
-  pub text : Text
-
-abbrev pub printedTo : Trace → Text → Printed
-printedTo trace text = record { trace = trace; text = text }
-
--- "for a call with a buffer: G and the number of bytes delivered; B and the whole buffer"
-abbrev pub endMode : Takes → Mode
-endMode Takes.Nothing = Mode.Reading
-endMode (Takes.Buffer n) = Mode.Showing 0
-endMode (Takes.Data n) = Mode.Reading
-
-abbrev pub givenMode : Given → Takes → Mode
-givenMode (Given.Act action) takes = Mode.Awaiting
-givenMode (Given.Ended answer) takes = endMode takes
-givenMode (Given.Failed error) takes = endMode takes
-givenMode (Given.Refused error) takes = endMode takes
-
-unfoldable pub givingOf : Trace → List ℕ → List ℕ → Text → Printed
-givingOf trace scratch room out =
-    printedTo
-    (inMode trace (givenMode (trace .stepped .given) (trace .lent .takes)))
-    (appended (givenLines (trace .stepped .given) (trace .lent .takes) (countedOf trace) scratch room) out)
-
-abbrev pub shownTo : Bool → ℕ → Mode
-shownTo true from = Mode.Showing (from + 16384)
-shownTo false from = Mode.Reading
-
-abbrev pub shownMode : ℕ → ℕ → Mode
-shownMode len from = shownTo (ltb (from + 16384) len) from
-
-unfoldable pub showingOf : Trace → ℕ → List ℕ → Text → Printed
-showingOf trace from room out =
-    printedTo
-    (inMode trace (shownMode (length (bufferOf (trace .lent .takes) room)) from))
-    (appended (pieceOf (bufferOf (trace .lent .takes) room) from) out)
+use Rattle.nor_turns.specs.Giving.{Printed, givingOf, showingOf, badOf}
+use Rattle.nor_turns.specs.Reading.{Called, readingOf}
+use Rattle.nor_turns.specs.State.{inMode, readTo, gaveTo}
+use Rattle.nor_turns.specs.declared.state.Mode.{Mode}
+use Rattle.nor_turns.specs.declared.state.Trace.{Trace}
 
 -- ---- a reply to the action that is out
 
@@ -183,11 +91,7 @@ awaitingAt (Given.Refused error) trace text scratch room reply = repliedTo (inMo
 unfoldable pub awaitingOf : Trace → List ℕ → List ℕ → List ℕ → List ℕ → Replied
 awaitingOf trace text scratch room reply = awaitingAt (trace .stepped .given) trace text scratch room reply
 
--- ---- a bad line, and any turn
-
--- "ends the output with the line bad case N", "and nothing after it"
-unfoldable pub badOf : Trace → List ℕ → Text → Printed
-badOf trace text out = printedTo (inMode trace Mode.Over) (appended (badLine (lineNumber text (trace .at))) out)
+-- ---- any turn
 
 -- a trace, the lent bytes and what was printed, after a turn
 pub record Turned : Type 0 where

@@ -1,7 +1,7 @@
 // The trace of a whole NOR case.
-use crate::nor_state;
 use crate::nor_turn;
 use case_text::line;
+use nor_turns::state;
 use nor_words::call;
 use nor_words::print;
 ghost use mathlib.Core.Path.{_≡_};
@@ -40,12 +40,12 @@ pub extern "C" fn nor_trace_case(
     ensures { λ r. ⌜ textOf (now (out .exit)) r ≡ caseOf (now (text .entry)) (now (room .entry)) (now (reply .entry)) (now (out .entry)) .text ⌝ }
 {
     let mut scratch = [0u8; 264];
-    let mut trace = nor_state::start();
+    let mut trace = state::start();
     let mut at = 0;
     let most = budget(text.len(), room.len());
     let mut i = 0;
     while i < most {
-        if nor_state::over(trace) {
+        if state::over(trace) {
             return at;
         }
         let next = nor_turn::advance(trace, text, &mut scratch, room, reply, out, at);
