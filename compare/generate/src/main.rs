@@ -3,7 +3,7 @@
 use std::io::{self, BufWriter, Write};
 use std::process::ExitCode;
 
-use generate::Generator;
+use generate::{Generator, Nor};
 
 fn main() -> ExitCode {
     let numbers: Vec<Option<u64>> = std::env::args()
@@ -25,7 +25,7 @@ fn main() -> ExitCode {
 
 fn print_cases(seed: u64, count: usize) -> io::Result<()> {
     let mut out = BufWriter::new(io::stdout().lock());
-    for case in Generator::new(seed).take(count) {
+    for case in Generator::<Nor>::new(seed).take(count) {
         out.write_all(case.as_bytes())?;
     }
     out.flush()
