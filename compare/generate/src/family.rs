@@ -119,11 +119,13 @@ impl<F: Flash> Sequence<F> {
         self.chancy(plain(name, &[]), Waits::Short, rng);
     }
 
+    /// A construction that succeeds.
     pub fn construct_well(&mut self, rng: &mut Rng) {
-        self.fitting(plain("new", &[]), F::id(rng), rng);
+        let id = F::id(rng);
+        self.build(id, rng);
     }
 
-    fn accessors(&mut self, rng: &mut Rng) {
+    pub fn accessors(&mut self, rng: &mut Rng) {
         for name in request::accessors::<F>() {
             self.fitting(plain(name, &[]), F::id(rng), rng);
         }
@@ -144,6 +146,18 @@ impl<F: Flash> Sequence<F> {
                 _ => return None,
             };
             let place = rng.below(replies as u64) as usize;
+            Some(SpoiltAt { spoil, place })
+        });
+    }
+
+    /// A call on which the bus fails, anywhere.
+    pub fn broken_off(&mut self, call: Call, rng: &mut Rng) {
+        let id = F::id(rng);
+        let mut forks = Forks::path(&[]);
+        let script = Script::new(rng, &mut forks, Waits::Short);
+        self.call(call, id, script, |replies, rng| {
+            let place = rng.below(replies as u64) as usize;
+            let spoil = Spoil::BusError;
             Some(SpoiltAt { spoil, place })
         });
     }

@@ -3,6 +3,7 @@
 mod course;
 mod family;
 mod flash;
+mod nand;
 mod nor;
 mod request;
 mod rng;
@@ -15,6 +16,7 @@ mod text;
 use case_text::Item;
 
 pub use flash::Flash;
+pub use nand::Nand;
 pub use nor::Nor;
 use rng::Rng;
 use sweep::Sweep;

@@ -3,6 +3,7 @@
 use case_text::{Call, Item, Quad};
 
 use crate::flash::Flash;
+use crate::request::plain;
 use crate::rng::Rng;
 use crate::script::{Forks, Script, Waits};
 use crate::spoil::Spoil;
@@ -98,6 +99,13 @@ impl<F: Flash> Sequence<F> {
         };
         self.items.push(Item::Call(call));
         self.items.extend(replies.into_iter().map(Item::Reply));
+    }
+
+    /// Adds a construction that succeeds.
+    pub fn build(&mut self, id: [u8; 3], rng: &mut Rng) {
+        let mut forks = Forks::path(F::BUILT);
+        let script = Script::new(rng, &mut forks, Waits::Short);
+        self.call(plain("new", &[]), id, script, |_, _| None);
     }
 
     /// Adds a call whose replies all fit.

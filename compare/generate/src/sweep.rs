@@ -116,15 +116,8 @@ impl<F: Flash> Sequence<F> {
             self.set_quad(Some(quad(rng)));
         }
         if !scene.call.name.starts_with("new") {
-            self.build(rng);
+            self.build(F::ID, rng);
         }
-    }
-
-    /// A construction that succeeds.
-    fn build(&mut self, rng: &mut Rng) {
-        let mut forks = Forks::path(F::BUILT);
-        let script = Script::new(rng, &mut forks, Waits::Short);
-        self.call(plain("new", &[]), F::ID, script, |_, _| None);
     }
 
     /// What the call has left of the driver shows in the calls behind it.

@@ -1,31 +1,67 @@
-//! The generator knows the driver's course: its replies fit, and where it spoils one, that one is asked for.
+//! The generator knows each driver's course: its replies fit, and where it spoils one, that one is asked for.
 
-use generate::{Generator, unspoilt_ways, whole_sweep};
-use rust_trace::nor_trace;
+use std::collections::BTreeSet;
+
+use generate::{Flash, Generator, Nand, Nor, unspoilt_ways, whole_sweep};
+use rust_trace::{nand_trace, nor_trace};
 
 const SEED: u64 = 1;
 
-/// How many calls of these cases end with one of these numbers.
-fn ends(cases: &[String], numbers: &[&str]) -> usize {
-    let traces = cases.iter().map(|case| nor_trace(case.as_bytes()));
-    traces
-        .map(|trace| {
-            let ends = trace.lines().filter_map(|line| line.strip_prefix("E "));
-            ends.filter(|end| numbers.contains(end)).count()
-        })
-        .sum()
+/// A driver that both the generator and the harness know.
+trait Side: Flash {
+    /// Document 01's numbers that its calls and the harness can give.
+    const NUMBERS: &'static [&'static str];
+
+    fn trace(case: &str) -> String;
 }
 
-#[test]
-fn unspoilt_replies_fit() {
-    let ways = unspoilt_ways(SEED);
+impl Side for Nor {
+    const NUMBERS: &'static [&'static str] = &[
+        "0", "1", "2", "3", "5", "6", "7", "11", "12", "13", "14", "16",
+    ];
+
+    fn trace(case: &str) -> String {
+        nor_trace(case.as_bytes())
+    }
+}
+
+impl Side for Nand {
+    const NUMBERS: &'static [&'static str] = &[
+        "0", "1", "2", "4", "5", "6", "7", "8", "9", "10", "11", "12", "13", "14", "16",
+    ];
+
+    fn trace(case: &str) -> String {
+        nand_trace(case.as_bytes())
+    }
+}
+
+fn traces<S: Side>(cases: &[String]) -> Vec<String> {
+    cases.iter().map(|case| S::trace(case)).collect()
+}
+
+/// How many calls of these cases end with one of these numbers.
+fn ends(traces: &[String], numbers: &[&str]) -> usize {
+    traces
+        .iter()
+        .flat_map(|trace| words_behind("E ", trace))
+        .filter(|end| numbers.contains(end))
+        .count()
+}
+
+fn words_behind<'a>(head: &'a str, trace: &'a str) -> impl Iterator<Item = &'a str> {
+    trace
+        .lines()
+        .filter_map(move |line| line.strip_prefix(head))
+}
+
+fn unspoilt_replies_fit<S: Side>() {
+    let ways = traces::<S>(&unspoilt_ways::<S>(SEED));
     assert_eq!(ends(&ways, &["1", "14", "16"]), 0);
 }
 
-#[test]
-fn each_spoilt_reply_is_asked_for() {
-    let ways = unspoilt_ways(SEED).len();
-    let sweep = whole_sweep(SEED);
+fn each_spoilt_reply_is_asked_for<S: Side>() {
+    let ways = unspoilt_ways::<S>(SEED).len();
+    let sweep = traces::<S>(&whole_sweep::<S>(SEED));
     let bus_errors = ends(&sweep, &["1"]);
     let unfinished = ends(&sweep, &["14", "16"]);
     println!("{ways} ways, {} cases", sweep.len());
@@ -33,26 +69,56 @@ fn each_spoilt_reply_is_asked_for() {
     assert_eq!(ways + bus_errors + unfinished, sweep.len());
 }
 
-#[test]
-fn cases_follow_the_rules_and_hold_every_number_of_the_nor() {
-    let cases: Vec<String> = Generator::new(SEED).take(2_000).collect();
-    for case in &cases {
-        let trace = nor_trace(case.as_bytes());
-        assert!(
-            !trace.contains("bad case") && !trace.contains("panic"),
-            "{case}"
-        );
+fn cases_follow_the_rules_and_hold_all_there_is<S: Side>() {
+    let cases: Vec<String> = Generator::<S>::new(SEED).take(2_000).collect();
+    let traces = traces::<S>(&cases);
+    for (case, trace) in cases.iter().zip(&traces) {
+        let rules = !trace.contains("bad case") && !trace.contains("panic");
+        assert!(rules, "{case}");
     }
-    for number in [
-        "0", "1", "2", "3", "5", "6", "7", "11", "12", "13", "14", "16",
-    ] {
-        assert!(ends(&cases, &[number]) > 0, "no E {number}");
-    }
+    let seen = |head| -> BTreeSet<&str> {
+        let words = traces.iter().flat_map(|trace| words_behind(head, trace));
+        words.collect()
+    };
+    assert_eq!(seen("E "), S::NUMBERS.iter().copied().collect());
+    let calls = S::DIALECT.calls.iter().map(|shape| shape.name);
+    assert_eq!(seen("call "), calls.collect());
 }
 
-#[test]
-fn a_seed_gives_the_same_cases() {
-    let cases = |seed| Generator::new(seed).take(100).collect::<Vec<_>>();
+fn a_seed_gives_the_same_cases<S: Side>() {
+    let cases = |seed| Generator::<S>::new(seed).take(100).collect::<Vec<_>>();
     assert_eq!(cases(7), cases(7));
     assert_ne!(cases(7), cases(8));
 }
+
+/// The same checks for every driver.
+macro_rules! checks {
+    ($module:ident, $side:ident) => {
+        mod $module {
+            use super::$side;
+
+            #[test]
+            fn unspoilt_replies_fit() {
+                super::unspoilt_replies_fit::<$side>();
+            }
+
+            #[test]
+            fn each_spoilt_reply_is_asked_for() {
+                super::each_spoilt_reply_is_asked_for::<$side>();
+            }
+
+            #[test]
+            fn cases_follow_the_rules_and_hold_all_there_is() {
+                super::cases_follow_the_rules_and_hold_all_there_is::<$side>();
+            }
+
+            #[test]
+            fn a_seed_gives_the_same_cases() {
+                super::a_seed_gives_the_same_cases::<$side>();
+            }
+        }
+    };
+}
+
+checks!(nor, Nor);
+checks!(nand, Nand);

@@ -69,7 +69,7 @@ pub fn pieces(rng: &mut Rng) -> Vec<Item> {
     }
     let own = [PIECE * 2 + 1, 4_096, 65_536, 256];
     sequence.set_own(rng.percent(30).then_some(own));
-    sequence.construct_well(rng);
+    sequence.fitting(plain("new", &[]), Nor::id(rng), rng);
     let length = PIECE * (1 + rng.below(2)) + rng.below(3) - 1;
     let end = sequence.geometry().capacity;
     let offset = match rng.below(4) {
