@@ -3,7 +3,7 @@
 use case_text::{Call, Item};
 
 use super::Nand;
-use super::geometry::{AT_BOUNDS, LARGE_PAGES};
+use super::geometry::{AT_BOUNDS, Geometry, LARGE_PAGES};
 use super::request::BARE_CALLS;
 use crate::flash::{Case, Flash, Scene, Waiting};
 use crate::request::{plain, quad, read, with_buffer, with_data};
@@ -114,27 +114,43 @@ pub fn edges(rng: &mut Rng, turn: u64) -> Vec<Item> {
     sequence.set_quad(rng.percent(40).then_some(quad(rng)));
     sequence.set_own(Some(AT_BOUNDS[turn as usize % AT_BOUNDS.len()]));
     sequence.construct_well(rng);
-    for call in edge_calls(&sequence) {
+    for call in edge_calls(rng, &sequence.geometry()) {
         sequence.fitting(call, Nand::id(rng), rng);
     }
     sequence.items
 }
 
-fn edge_calls(sequence: &Sequence<Nand>) -> Vec<Call> {
-    let geometry = sequence.geometry();
-    let (page, cache, capacity) = (geometry.page, geometry.cache(), geometry.capacity());
-    let mut calls = Vec::new();
-    for (offset, length) in [(page - 1, 2), (capacity - 1, 1), (capacity - 1, 2)] {
-        calls.push(read(offset, length));
+fn edge_calls(rng: &mut Rng, geometry: &Geometry) -> Vec<Call> {
+    let mut calls = edge_ranges(rng, geometry);
+    let page = geometry.page as usize;
+    for number in [geometry.pages() - 1, geometry.pages()] {
+        calls.push(plain("page_read", &[number]));
+        calls.push(plain("program_execute", &[number]));
+        for length in [page, page - 1] {
+            calls.push(with_buffer("read_page", number, length as u64));
+            calls.push(with_data("write_page", number, rng.bytes(length)));
+        }
     }
-    for (offset, length) in [
+    for number in [geometry.blocks - 1, geometry.blocks] {
+        for name in ["erase_block", "is_bad_block", "mark_bad_block"] {
+            calls.push(plain(name, &[number]));
+        }
+    }
+    calls
+}
+
+fn edge_ranges(rng: &mut Rng, geometry: &Geometry) -> Vec<Call> {
+    let (page, cache, capacity) = (geometry.page, geometry.cache(), geometry.capacity());
+    let reads = [
+        (page - 1, 2),
+        (capacity - 1, 1),
+        (capacity - 1, 2),
         (capacity, 0),
         (capacity, 1),
         (capacity + 1, 0),
         (u64::MAX, 1),
-    ] {
-        calls.push(read(offset, length));
-    }
+    ];
+    let mut calls: Vec<Call> = reads.map(|(offset, length)| read(offset, length)).into();
     for (column, length) in [
         (0, cache),
         (1, cache),
@@ -143,25 +159,8 @@ fn edge_calls(sequence: &Sequence<Nand>) -> Vec<Call> {
         (cache, 1),
     ] {
         calls.push(with_buffer("read_cache", column, length));
-        let data = vec![0x13; length as usize];
+        let data = rng.bytes(length as usize);
         calls.push(with_data("load_program_data", column, data));
-    }
-    for number in [geometry.pages() - 1, geometry.pages()] {
-        calls.push(plain("page_read", &[number]));
-        calls.push(plain("program_execute", &[number]));
-        calls.push(with_buffer("read_page", number, page));
-        calls.push(with_buffer("read_page", number, page - 1));
-        calls.push(with_data("write_page", number, vec![0x10; page as usize]));
-        calls.push(with_data(
-            "write_page",
-            number,
-            vec![0x10; page as usize + 1],
-        ));
-    }
-    for number in [geometry.blocks - 1, geometry.blocks] {
-        for name in ["erase_block", "is_bad_block", "mark_bad_block"] {
-            calls.push(plain(name, &[number]));
-        }
     }
     calls
 }

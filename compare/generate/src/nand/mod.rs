@@ -93,11 +93,12 @@ impl Flash for Nand {
             17 => ids::<Self>(rng),
             18 => family::registers(rng),
             _ => match round % 8 {
-                // Waits of a NAND make long texts, so they come seldom.
+                // Waits of a NAND and its longest pages make long texts, so they come seldom.
                 0 => waits::<Self>(rng, round / 8),
-                4 => return family::large_page(rng, round / 8),
+                1 | 5 => family::edges(rng, round / 4),
                 2 | 6 => family::marks(rng, round / 4),
-                _ => family::edges(rng, round / 2),
+                4 => return family::large_page(rng, round / 8),
+                _ => any_calls::<Self>(rng),
             },
         };
         items.into()
