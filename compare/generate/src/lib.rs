@@ -36,6 +36,11 @@ impl<F: Flash> Generator<F> {
             sweep: Sweep::new(seed),
         }
     }
+
+    /// Whether the cases so far hold a whole sweep.
+    pub fn is_swept(&self) -> bool {
+        self.sweep.is_whole()
+    }
 }
 
 impl<F: Flash> Iterator for Generator<F> {

@@ -1,7 +1,10 @@
 //! The generator knows each driver's course: its replies fit, and where it spoils one, that one is asked for.
 
+mod common;
+
 use std::collections::BTreeSet;
 
+use common::{asked, lines_with};
 use generate::{Flash, Generator, Nand, Nor, unspoilt_ways, whole_sweep};
 use rust_trace::{nand_trace, nor_trace};
 
@@ -11,6 +14,10 @@ const SEED: u64 = 1;
 trait Side: Flash {
     /// Document 01's numbers that its calls and the harness can give.
     const NUMBERS: &'static [&'static str];
+    /// So many cases hold a whole sweep, and every wait up to its limit.
+    const WHOLE: usize;
+    /// Document 01's bills of calls that always have the same.
+    const BILLS: &'static [(&'static str, u64)];
 
     fn trace(case: &str) -> String;
 }
@@ -18,6 +25,16 @@ trait Side: Flash {
 impl Side for Nor {
     const NUMBERS: &'static [&'static str] = &[
         "0", "1", "2", "3", "5", "6", "7", "11", "12", "13", "14", "16",
+    ];
+
+    const WHOLE: usize = 4_000;
+    const BILLS: &'static [(&'static str, u64)] = &[
+        ("new", 200_000),
+        ("enable_quad", 200_000),
+        ("unprotect", 200_000),
+        ("disable_quad", 100_000),
+        ("erase_sector", 1_000_000),
+        ("erase_block", 5_000_000),
     ];
 
     fn trace(case: &str) -> String {
@@ -28,6 +45,24 @@ impl Side for Nor {
 impl Side for Nand {
     const NUMBERS: &'static [&'static str] = &[
         "0", "1", "2", "4", "5", "6", "7", "8", "9", "10", "11", "12", "13", "14", "16",
+    ];
+
+    const WHOLE: usize = 8_000;
+    const BILLS: &'static [(&'static str, u64)] = &[
+        ("new", 520_000),
+        ("reset", 500_000),
+        ("reset_and_identify", 500_000),
+        ("write_register", 10_000),
+        ("ensure_configuration", 10_000),
+        ("unprotect", 10_000),
+        ("disable_quad", 10_000),
+        ("page_read", 400_000),
+        ("program_execute", 400_005),
+        ("read_page", 400_000),
+        ("write_page", 800_005),
+        ("erase_block", 400_000),
+        ("is_bad_block", 400_000),
+        ("mark_bad_block", 1_600_005),
     ];
 
     fn trace(case: &str) -> String {
@@ -43,15 +78,9 @@ fn traces<S: Side>(cases: &[String]) -> Vec<String> {
 fn ends(traces: &[String], numbers: &[&str]) -> usize {
     traces
         .iter()
-        .flat_map(|trace| words_behind("E ", trace))
+        .flat_map(|trace| lines_with(trace, "E "))
         .filter(|end| numbers.contains(end))
         .count()
-}
-
-fn words_behind<'a>(head: &'a str, trace: &'a str) -> impl Iterator<Item = &'a str> {
-    trace
-        .lines()
-        .filter_map(move |line| line.strip_prefix(head))
 }
 
 fn unspoilt_replies_fit<S: Side>() {
@@ -77,12 +106,28 @@ fn cases_follow_the_rules_and_hold_all_there_is<S: Side>() {
         assert!(rules, "{case}");
     }
     let seen = |head| -> BTreeSet<&str> {
-        let words = traces.iter().flat_map(|trace| words_behind(head, trace));
+        let words = traces.iter().flat_map(|trace| lines_with(trace, head));
         words.collect()
     };
     assert_eq!(seen("E "), S::NUMBERS.iter().copied().collect());
     let calls = S::DIALECT.calls.iter().map(|shape| shape.name);
     assert_eq!(seen("call "), calls.collect());
+}
+
+fn a_whole_run_holds_a_sweep_and_asks_every_bill<S: Side>() {
+    let mut generator = Generator::<S>::new(SEED);
+    let cases = generator.by_ref().take(S::WHOLE);
+    let traces: Vec<String> = cases.map(|case| S::trace(&case)).collect();
+    assert!(generator.is_swept());
+    for (name, bill) in S::BILLS {
+        let head = format!("{name}\n");
+        let calls = traces.iter().flat_map(|trace| trace.split("call "));
+        let longest = calls
+            .filter(|call| call.starts_with(&head))
+            .map(asked)
+            .max();
+        assert_eq!(longest, Some(*bill), "{name}");
+    }
 }
 
 fn a_seed_gives_the_same_cases<S: Side>() {
@@ -110,6 +155,11 @@ macro_rules! checks {
             #[test]
             fn cases_follow_the_rules_and_hold_all_there_is() {
                 super::cases_follow_the_rules_and_hold_all_there_is::<$side>();
+            }
+
+            #[test]
+            fn a_whole_run_holds_a_sweep_and_asks_every_bill() {
+                super::a_whole_run_holds_a_sweep_and_asks_every_bill::<$side>();
             }
 
             #[test]

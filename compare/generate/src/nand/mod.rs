@@ -104,3 +104,6 @@ impl Flash for Nand {
         items.into()
     }
 }
+
+#[cfg(test)]
+mod tests;

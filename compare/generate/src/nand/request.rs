@@ -44,14 +44,16 @@ pub fn id(rng: &mut Rng) -> [u8; 3] {
         [0xC8, 0xF1, 0x48],
     ];
     let (known, other) = (rng.pick(&KNOWN), rng.pick(&KNOWN));
-    match rng.below(6) {
+    match rng.below(7) {
         0..=2 => known,
-        3 => {
+        // What a W25N02KV answers by its datasheet.
+        3 => [0xEF, 0xAA, 0x22],
+        4 => {
             let mut near = known;
             near[rng.below(3) as usize] ^= 1 << rng.below(8);
             near
         }
-        4 => [other[0], known[1], known[2]],
+        5 => [other[0], known[1], known[2]],
         _ => [rng.byte(), rng.byte(), rng.byte()],
     }
 }
