@@ -4,8 +4,10 @@ mod common;
 
 use std::collections::BTreeSet;
 
+use case_text::{Item, NAND};
 use common::{asked, lines_with};
 use generate::{Flash, Generator, Nand, Nor, unspoilt_ways, whole_sweep};
+use rust_trace::bench::Driver;
 use rust_trace::{nand_trace, nor_trace};
 
 const SEED: u64 = 1;
@@ -172,3 +174,28 @@ macro_rules! checks {
 
 checks!(nor, Nor);
 checks!(nand, Nand);
+
+/// Whether a construction takes a page that the Rust refuses last of all, the port earlier.
+fn constructs_a_large_page(case: &str) -> bool {
+    let mut own = None;
+    case_text::read(case.as_bytes(), &NAND)
+        .into_iter()
+        .any(|item| match item {
+            Item::Own(numbers) => {
+                own = numbers;
+                false
+            }
+            Item::Call(call) if call.name == "new" => {
+                own.is_some_and(|own| own[0] > 4_096 && rust_trace::nand::Nand::inside_bounds(own))
+            }
+            _ => false,
+        })
+}
+
+#[test]
+fn large_pages_are_noted() {
+    for case in Generator::<Nand>::new(SEED).take(4_000) {
+        let noted = case.lines().nth(1) == Some("# large page");
+        assert_eq!(constructs_a_large_page(&case), noted, "{case}");
+    }
+}

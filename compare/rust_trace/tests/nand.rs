@@ -199,7 +199,8 @@ fn a_read_that_fails_keeps_what_was_delivered() {
 #[test]
 fn a_read_at_the_capacity() {
     let refused = "E 5\nG 0\nB CC\n";
-    let text = "call read 134217728 0\ncall read 134217728 1\ncall read 18446744073709551615 1\ncall read 134217729 0\n";
+    let text = "call read 134217728 0\ncall read 134217728 1\n\
+        call read 18446744073709551615 1\ncall read 134217729 0\n";
     let expected = format!(
         "call read\nE 0\nG 0\nB\ncall read\n{refused}call read\n{refused}call read\nE 5\nG 0\nB\n"
     );
