@@ -175,21 +175,21 @@ macro_rules! checks {
 checks!(nor, Nor);
 checks!(nand, Nand);
 
-/// Whether a construction takes a page that the Rust refuses last of all, the port earlier.
+/// A page that the Rust refuses last of all, the port earlier.
+fn is_large(own: [u64; 4]) -> bool {
+    own[0] > 4_096 && rust_trace::nand::Nand::inside_bounds(own)
+}
+
 fn constructs_a_large_page(case: &str) -> bool {
     let mut own = None;
-    case_text::read(case.as_bytes(), &NAND)
-        .into_iter()
-        .any(|item| match item {
-            Item::Own(numbers) => {
-                own = numbers;
-                false
-            }
-            Item::Call(call) if call.name == "new" => {
-                own.is_some_and(|own| own[0] > 4_096 && rust_trace::nand::Nand::inside_bounds(own))
-            }
-            _ => false,
-        })
+    for item in case_text::read(case.as_bytes(), &NAND) {
+        match item {
+            Item::Own(numbers) => own = numbers,
+            Item::Call(call) if call.name == "new" && own.is_some_and(is_large) => return true,
+            _ => {}
+        }
+    }
+    false
 }
 
 #[test]

@@ -91,18 +91,20 @@ fn waiting_calls() -> Vec<(Call, &'static [bool], usize)> {
     ]
 }
 
-/// The registers of configuration and protection, again and again: every pattern of their bits comes.
+/// The registers of configuration and protection, again and again: every pattern of their bits comes. What
+/// construction noted of them and of the id stays.
 pub fn registers(rng: &mut Rng) -> Vec<Item> {
     let mut sequence = Sequence::<Nand>::new();
     sequence.set_quad(rng.percent(50).then_some(quad(rng)));
     sequence.construct_well(rng);
-    for _ in 0..12 {
+    for _ in 0..10 {
         for name in ["ensure_configuration", "disable_quad", "unprotect"] {
             sequence.fitting(plain(name, &[]), Nand::id(rng), rng);
         }
+        sequence.fitting(Nand::bare(rng), Nand::id(rng), rng);
+        sequence.accessors(rng);
         if rng.percent(30) {
             sequence.fitting(plain("new", &[]), Nand::id(rng), rng);
-            sequence.accessors(rng);
         }
     }
     sequence.items
