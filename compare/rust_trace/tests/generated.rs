@@ -14,11 +14,11 @@ const SEED: u64 = 1;
 
 /// A driver that both the generator and the harness know.
 trait Side: Flash {
-    /// Document 01's numbers that its calls and the harness can give.
+    /// The specification's numbers that its calls and the harness can give.
     const NUMBERS: &'static [&'static str];
     /// So many cases hold a whole sweep, and every wait up to its limit.
     const WHOLE: usize;
-    /// Document 01's bills of calls that always have the same.
+    /// The specification's bills, of calls that always have the same.
     const BILLS: &'static [(&'static str, u64)];
 
     fn trace(case: &str) -> String;
