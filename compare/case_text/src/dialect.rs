@@ -87,3 +87,41 @@ pub const NOR: Dialect = Dialect {
         Shape::with("erase_block", &[Width::Offset32], Takes::Nothing),
     ],
 };
+
+/// The NAND's words. Its pages, columns, blocks and offsets are `usize` in the Rust.
+pub const NAND: Dialect = Dialect {
+    own: "geometry",
+    calls: &[
+        Shape::plain("new"),
+        Shape::plain("new_single"),
+        Shape::plain("info"),
+        Shape::plain("config"),
+        Shape::plain("geometry"),
+        Shape::plain("free"),
+        Shape::plain("disable_quad"),
+        Shape::with(
+            "write_register",
+            &[Width::Byte, Width::Byte],
+            Takes::Nothing,
+        ),
+        Shape::plain("write_enable"),
+        Shape::plain("read_status"),
+        Shape::plain("read_configuration"),
+        Shape::plain("read_protection"),
+        Shape::plain("reset"),
+        Shape::plain("jedec_id"),
+        Shape::plain("reset_and_identify"),
+        Shape::plain("ensure_configuration"),
+        Shape::plain("unprotect"),
+        Shape::with("page_read", &[Width::Word64], Takes::Nothing),
+        Shape::with("read_cache", &[Width::Word64], Takes::Buffer),
+        Shape::with("load_program_data", &[Width::Word64], Takes::Data),
+        Shape::with("program_execute", &[Width::Word64], Takes::Nothing),
+        Shape::with("read_page", &[Width::Word64], Takes::Buffer),
+        Shape::with("write_page", &[Width::Word64], Takes::Data),
+        Shape::with("erase_block", &[Width::Word64], Takes::Nothing),
+        Shape::with("read", &[Width::Word64], Takes::Buffer),
+        Shape::with("is_bad_block", &[Width::Word64], Takes::Nothing),
+        Shape::with("mark_bad_block", &[Width::Word64], Takes::Nothing),
+    ],
+};

@@ -7,11 +7,11 @@ mod dialect;
 pub mod frame;
 mod word;
 
-pub use dialect::{Dialect, NOR, Shape, Takes, Width};
+pub use dialect::{Dialect, NAND, NOR, Shape, Takes, Width};
 
 /// A longer text is not taken.
 pub const MAX_TEXT: usize = 4 * 1024 * 1024;
-/// No part of either driver holds more in one call; a longer buffer is not lent.
+/// A longer buffer is not lent: no NOR holds more, and no text has the replies to fill it.
 pub const MAX_BUFFER: u64 = 16 * 1024 * 1024;
 
 /// The quad setting: four numbers as the drivers take them.

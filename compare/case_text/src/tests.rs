@@ -4,12 +4,20 @@ fn items(text: &str) -> Vec<Item> {
     read(text.as_bytes(), &NOR)
 }
 
-fn plain(name: &'static str) -> Item {
+fn nand_items(text: &str) -> Vec<Item> {
+    read(text.as_bytes(), &NAND)
+}
+
+fn call(name: &'static str, numbers: &[u64], lent: Lent) -> Item {
     Item::Call(Call {
         name,
-        numbers: vec![],
-        lent: Lent::Nothing,
+        numbers: numbers.into(),
+        lent,
     })
+}
+
+fn plain(name: &'static str) -> Item {
+    call(name, &[], Lent::Nothing)
 }
 
 #[test]
@@ -34,18 +42,56 @@ fn settings_calls_and_replies() {
 
 #[test]
 fn what_calls_lend() {
-    let read = Call {
-        name: "read",
-        numbers: vec![4_096],
-        lent: Lent::Buffer(16),
-    };
-    let write = Call {
-        name: "write",
-        numbers: vec![256],
-        lent: Lent::Data(vec![0x00, 0xFF]),
-    };
     let text = "call read 0x1000 16\ncall write 256 @00fF";
-    assert_eq!(items(text), [Item::Call(read), Item::Call(write)]);
+    let expected = [
+        call("read", &[4_096], Lent::Buffer(16)),
+        call("write", &[256], Lent::Data(vec![0x00, 0xFF])),
+    ];
+    assert_eq!(items(text), expected);
+}
+
+#[test]
+fn words_of_the_nand() {
+    let text = "quad none\ngeometry 2048 64 64 1024\ngeometry none\ncall write_register 0xB0 255\n\
+        call read_page 18446744073709551615 2048\ncall load_program_data 0 @\ncall info\n";
+    let expected = [
+        Item::Quad(None),
+        Item::Own(Some([2_048, 64, 64, 1_024])),
+        Item::Own(None),
+        call("write_register", &[0xB0, 255], Lent::Nothing),
+        call("read_page", &[u64::MAX], Lent::Buffer(2_048)),
+        call("load_program_data", &[0], Lent::Data(vec![])),
+        plain("info"),
+    ];
+    assert_eq!(nand_items(text), expected);
+}
+
+#[test]
+fn bad_lines_of_the_nand() {
+    for line in [
+        "device none",
+        "device 2048 64 64 1024",
+        "geometry",
+        "geometry 2048 64 64",
+        "geometry 2048 64 64 1024 0",
+        "geometry 18446744073709551616 0 1 1",
+        "call id",
+        "call write 0 @",
+        "call erase_sector 0",
+        "call write_register 0xB0",
+        "call write_register 256 0",
+        "call write_register 0 256",
+        "call write_register 0 0 0",
+        "call read_page 0",
+        "call write_page 0 2048",
+        "call read_cache 0 @00",
+        "call read_cache 0 16777217",
+        "call page_read 18446744073709551616",
+        "call page_read",
+        "call reset 0",
+    ] {
+        assert_eq!(nand_items(line), [Item::Bad(1)], "{line:?}");
+    }
 }
 
 #[test]

@@ -1,6 +1,9 @@
-//! Writes cases for the NOR: mostly fitting replies, some spoilt. The same seed gives the same cases.
+//! Writes cases: mostly fitting replies, some spoilt. The same seed gives the same cases.
 
+mod course;
 mod family;
+mod flash;
+mod nand;
 mod nor;
 mod request;
 mod rng;
@@ -10,19 +13,22 @@ mod spoil;
 mod sweep;
 mod text;
 
-use case_text::{Item, NOR};
+use case_text::Item;
 
+pub use flash::Flash;
+pub use nand::Nand;
+pub use nor::Nor;
 use rng::Rng;
 use sweep::Sweep;
 
 /// Gives one case after the other, without end.
-pub struct Generator {
+pub struct Generator<F> {
     seed: u64,
     number: u64,
-    sweep: Sweep,
+    sweep: Sweep<F>,
 }
 
-impl Generator {
+impl<F: Flash> Generator<F> {
     pub fn new(seed: u64) -> Self {
         Self {
             seed,
@@ -31,24 +37,13 @@ impl Generator {
         }
     }
 
-    fn items(&mut self, number: u64, rng: &mut Rng) -> Vec<Item> {
-        let round = number / 20;
-        match number % 20 {
-            0..=7 => self.sweep.next_case(),
-            8..=14 => family::any_calls(rng),
-            15 | 16 => family::requests(rng),
-            17 => family::bounds(rng),
-            18 => family::ids(rng),
-            _ => match round % 5 {
-                0 | 1 => family::waits(rng, round / 5 * 2 + round % 5),
-                2 => family::pieces(rng),
-                _ => family::any_calls(rng),
-            },
-        }
+    /// Whether the cases so far hold a whole sweep.
+    pub fn is_swept(&self) -> bool {
+        self.sweep.is_whole()
     }
 }
 
-impl Iterator for Generator {
+impl<F: Flash> Iterator for Generator<F> {
     type Item = String;
 
     /// The next case, after its head line.
@@ -56,29 +51,32 @@ impl Iterator for Generator {
         let number = self.number;
         self.number += 1;
         let mut rng = Rng::new(self.seed, number);
-        let items = self.items(number, &mut rng);
-        let text = text::text(&items, NOR.own, &mut rng);
-        Some(format!("# case {number}\n{text}"))
+        let case = F::case(&mut self.sweep, number, &mut rng);
+        let note = case
+            .note
+            .map_or(String::new(), |note| format!("# {note}\n"));
+        let text = text::text(&case.items, F::DIALECT.own, &mut rng);
+        Some(format!("# case {number}\n{note}{text}"))
     }
 }
 
 /// The cases of one whole sweep: every way through every call, each reply spoilt in turn.
-pub fn whole_sweep(seed: u64) -> Vec<String> {
-    texts(seed, Sweep::next_case)
+pub fn whole_sweep<F: Flash>(seed: u64) -> Vec<String> {
+    texts::<F>(seed, Sweep::next_case)
 }
 
 /// The cases of one whole sweep in which no reply is spoilt.
-pub fn unspoilt_ways(seed: u64) -> Vec<String> {
-    texts(seed, Sweep::next_way)
+pub fn unspoilt_ways<F: Flash>(seed: u64) -> Vec<String> {
+    texts::<F>(seed, Sweep::next_way)
 }
 
-fn texts(seed: u64, next: fn(&mut Sweep) -> Vec<Item>) -> Vec<String> {
+fn texts<F: Flash>(seed: u64, next: fn(&mut Sweep<F>) -> Vec<Item>) -> Vec<String> {
     let mut sweep = Sweep::new(seed);
     let mut rng = Rng::new(seed, 0);
     let mut texts = Vec::new();
     while !sweep.is_whole() {
         let items = next(&mut sweep);
-        texts.push(text::text(&items, NOR.own, &mut rng));
+        texts.push(text::text(&items, F::DIALECT.own, &mut rng));
     }
     texts
 }

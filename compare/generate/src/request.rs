@@ -1,78 +1,39 @@
-//! What is asked for: settings, ids, and requests at and around the edges of a part.
+//! What is asked for, where every driver is asked alike.
 
-use case_text::{Call, Quad};
+use case_text::{Call, Lent, Quad};
 
-use crate::nor::Device;
+use crate::flash::Flash;
 use crate::rng::Rng;
-use crate::sequence::{plain, read, write};
 
-/// Calls without numbers that use the bus.
-pub const BARE_CALLS: [&str; 9] = [
-    "read_status1",
-    "read_status2",
-    "is_busy",
-    "jedec_id",
-    "unique_id",
-    "quad_enabled",
-    "enable_quad",
-    "disable_quad",
-    "unprotect",
-];
+/// A call with nothing lent.
+pub fn plain(name: &'static str, numbers: &[u64]) -> Call {
+    Call {
+        name,
+        numbers: numbers.into(),
+        lent: Lent::Nothing,
+    }
+}
 
-/// Calls without numbers that do not.
-pub const ACCESSORS: [&str; 3] = ["config", "device", "id"];
+/// A call that reads into a buffer.
+pub fn with_buffer(name: &'static str, number: u64, length: u64) -> Call {
+    Call {
+        name,
+        numbers: vec![number],
+        lent: Lent::Buffer(length as usize),
+    }
+}
 
-const MAX_OFFSET: u64 = u32::MAX as u64;
+pub fn with_data(name: &'static str, number: u64, data: Vec<u8>) -> Call {
+    Call {
+        name,
+        numbers: vec![number],
+        lent: Lent::Data(data),
+    }
+}
 
-/// An erase of more steps makes too long a text.
-const MAX_ERASE_STEPS: usize = 40;
-
-/// The caller's own parts at the bounds, inside.
-pub const AT_BOUNDS: [[u64; 4]; 20] = [
-    [16_777_216, 4_096, 65_536, 256],
-    [16_777_216, 1, 1, 1],
-    [16_777_216, 1, 16_777_216, 1],
-    [16_777_216, 16_777_216, 16_777_216, 512],
-    [16_777_216, 8_388_608, 16_777_216, 511],
-    [16_777_215, 5, 15, 3],
-    [0, 1, 1, 1],
-    [1, 1, 1, 1],
-    [1, 2, 2, 2],
-    [512, 512, 512, 512],
-    [513, 512, 512, 512],
-    [65_536, 4_096, 65_536, 256],
-    [65_535, 4_096, 65_536, 256],
-    [4_096, 4_096, 65_536, 256],
-    [131_073, 65_536, 65_536, 256],
-    [100_000, 1_000, 3_000, 100],
-    [12_345, 7, 21, 5],
-    [16_777_216, 4_096, 65_536, 513],
-    [16_777_216, 4_096, 65_536, 65_535],
-    [16_777_216, 4_096, 65_536, 65_536],
-];
-
-/// The caller's own parts outside the bounds, most of them by one.
-pub const OUTSIDE_BOUNDS: [[u64; 4]; 19] = [
-    [16_777_217, 4_096, 65_536, 256],
-    [16_777_216, 4_096, 65_536, 0],
-    [16_777_216, 4_096, 65_536, 65_537],
-    [16_777_216, 0, 65_536, 256],
-    [16_777_216, 0, 0, 256],
-    [16_777_216, 4_096, 0, 256],
-    [16_777_216, 4_096, 65_537, 256],
-    [16_777_216, 4_096, 2_048, 256],
-    [16_777_216, 1, 16_777_217, 256],
-    [16_777_216, 4_096, 16_781_312, 256],
-    [16_777_216, 16_777_217, 16_777_217, 256],
-    [16_777_216, 65_536, 4_096, 256],
-    [0, 0, 0, 0],
-    [4_294_967_296, 4_096, 65_536, 256],
-    [65_536, 4_294_967_296, 4_294_967_296, 256],
-    [65_536, 4_096, 4_295_032_832, 256],
-    [65_536, 4_096, 65_536, 4_294_967_552],
-    [9_223_372_036_854_775_808, 1, 1, 1],
-    [u64::MAX, u64::MAX, u64::MAX, u64::MAX],
-];
+pub fn read(offset: u64, length: u64) -> Call {
+    with_buffer("read", offset, length)
+}
 
 pub fn quad(rng: &mut Rng) -> Quad {
     let (tclqv_ns, margin) = (rng.next() as u32, rng.byte());
@@ -85,145 +46,52 @@ pub fn quad(rng: &mut Rng) -> Quad {
     }
 }
 
-/// A small part of odd numbers, inside the bounds.
-pub fn small_device(rng: &mut Rng) -> [u64; 4] {
-    let sector = rng.pick(&[1, 2, 5, 16, 100, 4_096]);
-    let block = sector * rng.pick(&[1, 2, 3, 16]);
-    let page = rng.pick(&[1, 2, 3, 16, 100, 256, 511, 512]);
-    let unit = rng.pick(&[sector, block, page]);
-    let capacity = unit * rng.below(12) + rng.pick(&[0, 0, 1]);
-    [capacity, sector, block, page]
-}
-
-/// Known ids, ids that miss one by a byte, and codes around those that tell a capacity.
-pub fn id(rng: &mut Rng) -> [u8; 3] {
-    let known = rng.pick(&[[0xEF, 0x40, 0x17], [0xEF, 0x40, 0x18], [0xC8, 0x40, 0x18]]);
-    match rng.below(5) {
-        0 | 1 => known,
-        2 => {
-            let mut near = known;
-            near[rng.below(3) as usize] ^= 1 << rng.below(8);
-            near
-        }
-        3 => [known[0], known[1], 14 + rng.below(13) as u8],
-        _ => [rng.byte(), rng.byte(), rng.byte()],
+/// Data of chance, or all of one byte; 13 begins a page load on a NAND.
+pub fn data(rng: &mut Rng, length: u64) -> Vec<u8> {
+    match rng.below(4) {
+        0 => vec![rng.pick(&[0x00, 0xFF, 0x13]); length as usize],
+        _ => rng.bytes(length as usize),
     }
 }
 
-pub fn bare(rng: &mut Rng) -> Call {
-    plain(rng.pick(&BARE_CALLS), &[])
-}
-
-pub fn accessor(rng: &mut Rng) -> Call {
-    plain(rng.pick(&ACCESSORS), &[])
+/// What a place counts: the first beyond the part, and the most that its number can hold.
+#[derive(Clone, Copy)]
+pub struct Space {
+    pub end: u64,
+    pub most: u64,
 }
 
 /// Where a request of this length begins: mostly inside, in steps of `unit`; else at an edge or beside it.
-fn place(rng: &mut Rng, device: &Device, unit: u64, length: u64) -> u64 {
-    let inside = rng.below(device.capacity / unit) * unit;
-    let room = device.capacity.saturating_sub(length);
-    let offset = match rng.below(20) {
+pub fn place(rng: &mut Rng, space: Space, unit: u64, length: u64) -> u64 {
+    let Space { end, most } = space;
+    let inside = rng.below(end / unit) * unit;
+    let room = end.saturating_sub(length);
+    let place = match rng.below(20) {
         0..=8 => inside.min(room / unit * unit),
         9 => 0,
         10 | 11 => room / unit * unit,
         12 => room,
         13 => room + 1,
         14 | 15 => inside + rng.below(unit),
-        16 => device.capacity,
-        17 => device.capacity + rng.pick(&[1, unit]),
+        16 => end,
+        17 => end + rng.pick(&[1, unit]),
         18 => 0x100_0000 - rng.below(2),
-        _ => MAX_OFFSET - rng.below(2) * (length + unit),
+        _ => most - rng.below(2) * (length + unit),
     };
-    offset.min(MAX_OFFSET)
+    place.min(most)
 }
 
-pub fn any_read(rng: &mut Rng, device: &Device) -> Call {
-    let length = match rng.below(8) {
-        0 => 0,
-        1 => 1,
-        2 => 250 + rng.below(12),
-        3 => device.capacity.min(700) + rng.below(2),
-        _ => 1 + rng.below(24),
-    };
-    read(place(rng, device, 1, length), length)
+pub const fn accessors<F: Flash>() -> [&'static str; 3] {
+    ["config", F::DIALECT.own, F::IDENTITY]
 }
 
-pub fn any_write(rng: &mut Rng, device: &Device) -> Call {
-    let page = device.page.min(512);
-    let pages = rng.pick(&[0, 1, 1, 1, 2, 3]);
-    let length = match rng.below(10) {
-        0 => page * pages + 1,
-        1 => (page * pages).saturating_sub(1),
-        _ => page * pages,
-    };
-    let data = match rng.below(4) {
-        0 => vec![rng.pick(&[0x00, 0xFF, 0x13]); length as usize],
-        _ => rng.bytes(length as usize),
-    };
-    write(place(rng, device, page, length), data)
-}
-
-pub fn any_erase(rng: &mut Rng, device: &Device) -> Call {
-    let (sector, block) = (device.sector, device.block);
-    let length = match rng.below(8) {
-        0 => 0,
-        1 => block,
-        2 => block + sector,
-        3 => block * 2,
-        4 => sector * rng.below(20) + rng.below(2),
-        _ => sector * (1 + rng.below(5)),
-    };
-    let from = match rng.below(4) {
-        // Where a block begins one or two sectors on.
-        0 => (rng.below(device.capacity / block) * block).saturating_sub(sector * rng.below(3)),
-        _ => place(rng, device, sector, length),
-    };
-    let to = match rng.below(12) {
-        0 => from.saturating_sub(sector),
-        1 => device.capacity,
-        2 => device.capacity + sector,
-        _ => from + length,
-    };
-    // One end beside its sector, the other not.
-    let (from, to) = match rng.below(12) {
-        0 => (from + rng.below(sector), to),
-        1 => (from, to.saturating_sub(rng.below(sector))),
-        2 => (to.saturating_sub(1), to),
-        _ => (from, to),
-    };
-    erase_not_too_long(device, from.min(MAX_OFFSET), to.min(MAX_OFFSET))
-}
-
-fn erase_not_too_long(device: &Device, from: u64, to: u64) -> Call {
-    let end = device.erase_steps(from, to).nth(MAX_ERASE_STEPS);
-    plain("erase", &[from, end.map_or(to, |(address, _)| address)])
-}
-
-pub fn any_erase_one(rng: &mut Rng, device: &Device) -> Call {
-    let (name, unit) = rng.pick(&[
-        ("erase_sector", device.sector),
-        ("erase_block", device.block),
-    ]);
-    plain(name, &[place(rng, device, unit, unit)])
-}
-
-/// A request with an address.
-pub fn addressed(rng: &mut Rng, device: &Device) -> Call {
-    match rng.below(5) {
-        0 | 1 => any_read(rng, device),
-        2 => any_write(rng, device),
-        3 => any_erase(rng, device),
-        _ => any_erase_one(rng, device),
-    }
-}
-
-pub fn any_call(rng: &mut Rng, device: &Device) -> Call {
+pub fn any_call<F: Flash>(rng: &mut Rng, geometry: &F::Geometry) -> Call {
     match rng.below(20) {
-        0..=4 => bare(rng),
-        5 => accessor(rng),
+        0..=4 => F::bare(rng),
+        5 => plain(rng.pick(&accessors::<F>()), &[]),
         6 => plain("new", &[]),
         7 => plain(rng.pick(&["new", "new_single"]), &[]),
         8 => plain("free", &[]),
-        _ => addressed(rng, device),
+        _ => F::addressed(rng, geometry),
     }
 }

@@ -36,6 +36,16 @@ impl Rng {
         self.next() as u8
     }
 
+    /// Some of the mask's bits, at least one.
+    pub fn some_bits(&mut self, mask: u8) -> u8 {
+        loop {
+            let bits = self.byte() & mask;
+            if bits != 0 {
+                return bits;
+            }
+        }
+    }
+
     pub fn bytes(&mut self, length: usize) -> Vec<u8> {
         (0..length).map(|_| self.byte()).collect()
     }

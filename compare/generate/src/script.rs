@@ -69,14 +69,14 @@ impl Forks {
 #[derive(Clone, Copy, PartialEq, Eq)]
 pub enum Waits {
     Short,
-    /// Mostly short; where the limit is small, at times up to it or beyond.
+    /// Mostly short; where few looks reach the limit, at times up to it or beyond.
     Mixed,
     /// So many waits of the call are busy until the last look, which is free; the next is busy then too.
     Full(usize),
 }
 
-/// A limit up to which [`Waits::Mixed`] goes; longer waits make long texts.
-const SMALL_LIMIT_US: usize = 100_000;
+/// Up to so many looks [`Waits::Mixed`] goes; longer waits make long texts.
+const FEW_LOOKS: usize = 1_000;
 
 pub struct Script<'a> {
     pub rng: &'a mut Rng,
@@ -124,7 +124,7 @@ impl<'a> Script<'a> {
     }
 
     /// How many looks find the part busy, when a look beyond `last` ends the wait.
-    pub fn busy_looks(&mut self, limit_us: usize, last: usize) -> usize {
+    pub fn busy_looks(&mut self, last: usize) -> usize {
         let short = self.rng.below(3) as usize;
         match &mut self.waits {
             Waits::Full(0) => last + 1,
@@ -132,7 +132,7 @@ impl<'a> Script<'a> {
                 *left -= 1;
                 last
             }
-            Waits::Mixed if limit_us <= SMALL_LIMIT_US => match self.rng.below(30) {
+            Waits::Mixed if last <= FEW_LOOKS => match self.rng.below(30) {
                 0 => last,
                 1 => last + 1,
                 _ => short,

@@ -1,17 +1,18 @@
 //! A case in the making: settings and calls one behind the other, with the replies each call needs.
 
-use case_text::{Call, Item, Lent, Quad};
+use case_text::{Call, Item, Quad};
 
-use crate::nor::{self, Device, Part};
+use crate::flash::Flash;
+use crate::request::plain;
 use crate::rng::Rng;
 use crate::script::{Forks, Script, Waits};
 use crate::spoil::Spoil;
 
 /// What the calls so far have left.
 #[derive(Clone, Copy)]
-enum Driver {
+enum Driver<F> {
     NotBuilt,
-    Built(Part),
+    Built(F),
     Unfinished,
 }
 
@@ -22,14 +23,14 @@ pub struct SpoiltAt {
     pub place: usize,
 }
 
-pub struct Sequence {
+pub struct Sequence<F> {
     pub items: Vec<Item>,
     quad: Option<Quad>,
     own: Option<[u64; 4]>,
-    driver: Driver,
+    driver: Driver<F>,
 }
 
-impl Sequence {
+impl<F: Flash> Sequence<F> {
     pub fn new() -> Self {
         Self {
             items: vec![],
@@ -50,27 +51,27 @@ impl Sequence {
     }
 
     /// The geometry that requests are aimed at.
-    pub fn device(&self) -> Device {
+    pub fn geometry(&self) -> F::Geometry {
         match self.driver {
-            Driver::Built(part) => part.device,
-            _ => Device::W25Q128JV,
+            Driver::Built(flash) => flash.geometry(),
+            _ => F::USUAL,
         }
     }
 
     /// The replies that bring the call to its end, and what they leave of the driver.
-    fn course(&self, script: &mut Script, call: &Call, id: [u8; 3]) -> Driver {
+    fn course(&self, script: &mut Script, call: &Call, id: [u8; 3]) -> Driver<F> {
         match (call.name, self.driver) {
             (_, Driver::Unfinished) => Driver::Unfinished,
             ("new", before) => match self.own {
-                Some(own) if !Device::of(own).inside_bounds() => before,
-                own => built(nor::construct(script, self.quad, own, id).ok()),
+                Some(own) if !F::inside_bounds(own) => before,
+                own => built(F::construct(script, self.quad, own, id).ok()),
             },
-            ("new_single", _) => built(nor::construct(script, None, None, id).ok()),
+            ("new_single", _) => built(F::construct(script, None, None, id).ok()),
             ("free", _) | (_, Driver::NotBuilt) => Driver::NotBuilt,
-            (_, Driver::Built(part)) => {
+            (_, Driver::Built(flash)) => {
                 // Whether the call ends well does not matter to the driver.
-                let _ = nor::answer(script, &part, call);
-                Driver::Built(part)
+                let _ = flash.answer(script, call);
+                Driver::Built(flash)
             }
         }
     }
@@ -100,6 +101,13 @@ impl Sequence {
         self.items.extend(replies.into_iter().map(Item::Reply));
     }
 
+    /// Adds a construction that succeeds.
+    pub fn build(&mut self, id: [u8; 3], rng: &mut Rng) {
+        let mut forks = Forks::path(F::BUILT);
+        let script = Script::new(rng, &mut forks, Waits::Short);
+        self.call(plain("new", &[]), id, script, |_, _| None);
+    }
+
     /// Adds a call whose replies all fit.
     pub fn fitting(&mut self, call: Call, id: [u8; 3], rng: &mut Rng) {
         let mut forks = Forks::Chance;
@@ -108,31 +116,6 @@ impl Sequence {
     }
 }
 
-fn built(part: Option<Part>) -> Driver {
-    part.map_or(Driver::NotBuilt, Driver::Built)
-}
-
-/// A call with nothing lent.
-pub fn plain(name: &'static str, numbers: &[u64]) -> Call {
-    Call {
-        name,
-        numbers: numbers.into(),
-        lent: Lent::Nothing,
-    }
-}
-
-pub fn read(offset: u64, length: u64) -> Call {
-    Call {
-        name: "read",
-        numbers: vec![offset],
-        lent: Lent::Buffer(length as usize),
-    }
-}
-
-pub fn write(offset: u64, data: Vec<u8>) -> Call {
-    Call {
-        name: "write",
-        numbers: vec![offset],
-        lent: Lent::Data(data),
-    }
+fn built<F>(flash: Option<F>) -> Driver<F> {
+    flash.map_or(Driver::NotBuilt, Driver::Built)
 }

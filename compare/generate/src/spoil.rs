@@ -64,6 +64,8 @@ fn other_length(reply: &Reply, rng: &mut Rng) -> Reply {
     let mut bytes = bytes.clone();
     match rng.below(3) {
         0 => bytes.push(rng.byte()),
+        // Nothing is shorter than nothing.
+        _ if bytes.is_empty() => bytes.push(0),
         1 => bytes.truncate(bytes.len().saturating_sub(1)),
         _ => bytes.clear(),
     }

@@ -1,47 +1,19 @@
 //! Every way through every call, and every reply of each way spoilt in turn.
 
-use case_text::{Call, Item};
+use std::marker::PhantomData;
 
-use crate::request::{BARE_CALLS, quad};
+use case_text::Item;
+
+use crate::flash::{Flash, Scene};
+use crate::request::{plain, quad, read};
 use crate::rng::Rng;
 use crate::script::{Forks, Script, Waits};
-use crate::sequence::{Sequence, SpoiltAt, plain, read, write};
+use crate::sequence::{Sequence, SpoiltAt};
 use crate::spoil::Spoil;
 
-/// A part so small that whole courses are short: three erase steps, pages of four bytes.
-const SMALL: [u64; 4] = [64, 8, 16, 4];
-const ID: [u8; 3] = [0xEF, 0x40, 0x17];
-
-/// A call with the settings of its construction.
-#[derive(Clone)]
-struct Scene {
-    quad: bool,
-    own: Option<[u64; 4]>,
-    call: Call,
-}
-
-fn scenes() -> Vec<Scene> {
-    let mut scenes = Vec::new();
-    let mut add = |quad, own, call| scenes.push(Scene { quad, own, call });
-    for quad in [false, true] {
-        add(quad, None, plain("new", &[]));
-        add(quad, Some(SMALL), read(11, 5));
-        add(quad, Some(SMALL), write(8, vec![0x00, 0xFF, 0x13, 0x5A]));
-        add(quad, Some(SMALL), write(56, (1..=8).collect()));
-    }
-    add(true, None, plain("new_single", &[]));
-    add(false, Some([64, 8, 16, 513]), plain("new", &[]));
-    for name in BARE_CALLS {
-        add(false, None, plain(name, &[]));
-    }
-    add(false, Some(SMALL), plain("erase_sector", &[56]));
-    add(false, Some(SMALL), plain("erase_block", &[48]));
-    add(false, Some(SMALL), plain("erase", &[8, 40]));
-    scenes
-}
-
 /// Gives the cases of the sweep without end; when all have been given it begins again with other bytes.
-pub struct Sweep {
+pub struct Sweep<F> {
+    flash: PhantomData<F>,
     seed: u64,
     scenes: Vec<Scene>,
     scene: usize,
@@ -52,11 +24,12 @@ pub struct Sweep {
     rounds: u64,
 }
 
-impl Sweep {
+impl<F: Flash> Sweep<F> {
     pub fn new(seed: u64) -> Self {
         Self {
+            flash: PhantomData,
             seed,
-            scenes: scenes(),
+            scenes: F::scenes(),
             scene: 0,
             forks: Forks::first_path(),
             way: 0,
@@ -88,14 +61,14 @@ impl Sweep {
         let scene = self.scenes[self.scene].clone();
         // The same numbers for all variants of a way, so that its replies stay the same but for the spoilt one.
         let mut rng = Rng::new(self.seed, u64::MAX - self.way);
-        let mut sequence = Sequence::new();
+        let mut sequence = Sequence::<F>::new();
         sequence.prepare(&scene, &mut rng);
         let variant = self.variant;
         let way = self.way as usize;
         let mut variants = 0;
         self.forks.restart();
         let script = Script::new(&mut rng, &mut self.forks, Waits::Short);
-        sequence.call(scene.call, ID, script, |replies, _| {
+        sequence.call(scene.call, F::ID, script, |replies, _| {
             variants = 1 + 2 * replies;
             spoilt_at(variant, replies, way)
         });
@@ -133,7 +106,7 @@ fn spoilt_at(variant: usize, replies: usize, way: usize) -> Option<SpoiltAt> {
     Some(SpoiltAt { spoil, place })
 }
 
-impl Sequence {
+impl<F: Flash> Sequence<F> {
     /// The settings, and the construction unless that is the call itself.
     fn prepare(&mut self, scene: &Scene, rng: &mut Rng) {
         if scene.own.is_some() {
@@ -143,24 +116,17 @@ impl Sequence {
             self.set_quad(Some(quad(rng)));
         }
         if !scene.call.name.starts_with("new") {
-            self.build(rng);
+            self.build(F::ID, rng);
         }
-    }
-
-    /// A construction that succeeds: the quad bit is found set, when it is looked for.
-    fn build(&mut self, rng: &mut Rng) {
-        let mut forks = Forks::path(&[true]);
-        let script = Script::new(rng, &mut forks, Waits::Short);
-        self.call(plain("new", &[]), ID, script, |_, _| None);
     }
 
     /// What the call has left of the driver shows in the calls behind it.
     fn probe(&mut self, rng: &mut Rng) {
-        let name = rng.pick(&["device", "id", "config"]);
-        self.fitting(plain(name, &[]), ID, rng);
-        self.fitting(read(3, 2), ID, rng);
+        let name = rng.pick(&[F::DIALECT.own, F::IDENTITY, "config"]);
+        self.fitting(plain(name, &[]), F::ID, rng);
+        self.fitting(read(3, 2), F::ID, rng);
         if rng.percent(30) {
-            self.fitting(plain("new_single", &[]), ID, rng);
+            self.fitting(plain("new_single", &[]), F::ID, rng);
         }
     }
 }

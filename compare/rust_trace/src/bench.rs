@@ -52,6 +52,14 @@ pub trait Driver: Sized {
     fn free(self);
 }
 
+/// The data that a call lends.
+pub fn data(call: &Call) -> &[u8] {
+    match &call.lent {
+        Lent::Data(bytes) => bytes,
+        _ => unreachable!("the call takes data"),
+    }
+}
+
 /// The trace of one case.
 pub fn trace<D: Driver>(text: &[u8]) -> String {
     let host = Host::new(read(text, &D::DIALECT));

@@ -1,13 +1,14 @@
 //! The Rust's NOR driver behind the names of a case.
 
-use case_text::{Call, Dialect, Lent, NOR, Quad};
+use case_text::{Call, Dialect, NOR, Quad};
 use reference::spi_flash::FlashError;
 use reference::spi_flash::nor::{
     NorDeviceInfo, NorJedecId, NorQuadConfig, SpiNorConfig, SpiNorFlash,
 };
 
-use crate::bench::{Answer, Driver, Settings};
+use crate::bench::{Answer, Driver, Settings, data};
 use crate::host::{Code, Host};
+use crate::values::{self, none, one};
 
 /// Harness: the most that three address bytes reach, and the longest erase block.
 const MAX_CAPACITY: u64 = 16_777_216;
@@ -72,21 +73,6 @@ impl Driver for Nor {
     }
 }
 
-fn none(_: ()) -> Vec<u64> {
-    vec![]
-}
-
-fn one(value: impl Into<u64>) -> Vec<u64> {
-    vec![value.into()]
-}
-
-fn data(call: &Call) -> &[u8] {
-    match &call.lent {
-        Lent::Data(bytes) => bytes,
-        _ => unreachable!("the call takes data"),
-    }
-}
-
 fn quad_config(quad: Quad) -> NorQuadConfig {
     NorQuadConfig {
         tclqv_ns: quad.tclqv_ns,
@@ -132,14 +118,5 @@ fn config_values(config: SpiNorConfig) -> Vec<u64> {
             quad.dummy_margin.into(),
         ]
     });
-    let device = config.device.map(device_values);
-    [optional(quad), optional(device)].concat()
-}
-
-/// 0, or 1 and the four numbers.
-fn optional(numbers: Option<[u64; 4]>) -> Vec<u64> {
-    match numbers {
-        Some(numbers) => [vec![1], numbers.into()].concat(),
-        None => vec![0],
-    }
+    values::config(quad, config.device.map(device_values))
 }

@@ -1,5 +1,8 @@
 //! Readings of the NOR that can be told by hand, and the refusals that the harness adds.
 
+mod common;
+
+use common::{asked, lines_with};
 use rust_trace::nor_trace;
 
 /// A construction with the id of a W25Q128JV.
@@ -19,12 +22,6 @@ fn trace_after_new(text: &str) -> String {
 /// Replies to a write enable, a command, and a wait of `busy` busy looks; the look behind them is free.
 fn erase_replies(busy: usize) -> String {
     format!(".\n.\n=02\n.\n{}.\n=00\n", ".\n=01\n".repeat(busy))
-}
-
-fn lines_with<'a>(trace: &'a str, head: &'a str) -> impl Iterator<Item = &'a str> {
-    trace
-        .lines()
-        .filter_map(move |line| line.strip_prefix(head))
 }
 
 #[test]
@@ -57,10 +54,7 @@ fn busiest_erase_asks_its_whole_bill() {
     let (sector, block) = (erase_replies(10_000), erase_replies(50_000));
     let text = format!("call erase 0xF000 0x21000\n{sector}{block}{sector}");
     let trace = trace_after_new(&text);
-    let asked: u64 = lines_with(&trace, "D ")
-        .map(|us| us.parse::<u64>().unwrap())
-        .sum();
-    assert_eq!(asked, 7_000_000);
+    assert_eq!(asked(&trace), 7_000_000);
     assert!(trace.ends_with("H\nE 0\n"));
 }
 
@@ -68,10 +62,7 @@ fn busiest_erase_asks_its_whole_bill() {
 fn one_look_more_is_a_timeout() {
     let trace = trace_after_new(&format!("call erase_sector 0\n{}", erase_replies(10_001)));
     assert!(trace.ends_with("D 100\nL\nW 05\nR 1\nH\nE 2\n"));
-    let asked: u64 = lines_with(&trace, "D ")
-        .map(|us| us.parse::<u64>().unwrap())
-        .sum();
-    assert_eq!(asked, 1_000_000);
+    assert_eq!(asked(&trace), 1_000_000);
 }
 
 #[test]

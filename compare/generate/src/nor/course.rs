@@ -2,20 +2,28 @@
 
 use case_text::{Call, Lent, Quad};
 
+use super::Nor;
+use crate::course::Timings;
 use crate::script::{Ended, Flow, Script};
 
-const BUSY: u8 = 0x01;
-const WRITE_LATCH: u8 = 0x02;
 const QUAD_IN_STATUS1: u8 = 0x40;
 const QUAD_IN_STATUS2: u8 = 0x02;
 const PROTECTION_IN_STATUS1: u8 = 0xFC;
 const PROTECTION_IN_STATUS2: u8 = 0xE0;
 
-const POLL_US: usize = 100;
-const PROGRAM_LIMIT_US: usize = 20_000;
-const SECTOR_LIMIT_US: usize = 1_000_000;
-const BLOCK_LIMIT_US: usize = 5_000_000;
-const STATUS_LIMIT_US: usize = 100_000;
+const PROGRAM: Timings = looks_until(20_000);
+const SECTOR: Timings = looks_until(1_000_000);
+const BLOCK: Timings = looks_until(5_000_000);
+const STATUS: Timings = looks_until(100_000);
+
+/// Every wait looks at once, and then at the same steps.
+const fn looks_until(limit_us: usize) -> Timings {
+    Timings {
+        first_us: 0,
+        poll_us: 100,
+        limit_us,
+    }
+}
 
 /// A read goes in pieces of at most this many bytes.
 pub const PIECE: u64 = 65_536;
@@ -79,20 +87,13 @@ impl Device {
     }
 }
 
-/// A driver that was built.
-#[derive(Clone, Copy)]
-pub struct Part {
-    pub device: Device,
-    pub quad: bool,
-}
-
 /// The replies of a construction in bounds, and the driver if it succeeds.
 pub fn construct(
     script: &mut Script,
     quad: Option<Quad>,
     own: Option<[u64; 4]>,
     id: [u8; 3],
-) -> Flow<Part> {
+) -> Flow<Nor> {
     script.written();
     script.gives(id.into());
     let device = own.map_or(Device::from_id(id), Device::of);
@@ -102,22 +103,28 @@ pub fn construct(
     if quad.is_some() {
         enable_quad(script)?;
     }
-    Ok(Part {
+    Ok(Nor {
         device,
         quad: quad.is_some(),
     })
 }
 
 /// The replies of a call on a driver that was built.
-pub fn answer(script: &mut Script, part: &Part, call: &Call) -> Flow {
+pub fn answer(script: &mut Script, part: &Nor, call: &Call) -> Flow {
     let number = |index: usize| call.numbers[index];
     match (call.name, &call.lent) {
         ("read_status1" | "read_status2" | "is_busy", _) => {
-            register(script, 0, false);
+            script.register(0, false);
             Ok(())
         }
-        ("jedec_id", _) => command_then_read(script, 3),
-        ("unique_id", _) => command_then_read(script, 8),
+        ("jedec_id", _) => {
+            script.command_then_read(3);
+            Ok(())
+        }
+        ("unique_id", _) => {
+            script.command_then_read(8);
+            Ok(())
+        }
         ("quad_enabled", _) => {
             quad_enabled(script);
             Ok(())
@@ -134,55 +141,14 @@ pub fn answer(script: &mut Script, part: &Part, call: &Call) -> Flow {
     }
 }
 
-fn command_then_read(script: &mut Script, length: usize) -> Flow {
-    script.written();
-    let bytes = script.rng.bytes(length);
-    script.gives(bytes);
-    Ok(())
-}
-
-/// Reads a status register; the mask's bits are all set or all clear in what it gives.
-fn register(script: &mut Script, mask: u8, set: bool) -> u8 {
-    script.written();
-    let byte = script.byte_with(mask, set);
-    script.gives(vec![byte]);
-    byte
-}
-
-fn write_enable(script: &mut Script) -> Flow {
-    let fails = script.fails();
-    script.written();
-    register(script, WRITE_LATCH, !fails);
-    if fails { Err(Ended) } else { Ok(()) }
-}
-
-fn wait(script: &mut Script, limit_us: usize) -> Flow {
-    let last = limit_us / POLL_US;
-    let busy = script.busy_looks(limit_us, last);
-    for _ in 0..busy {
-        register(script, BUSY, true);
-    }
-    if busy > last {
-        return Err(Ended);
-    }
-    register(script, BUSY, false);
-    Ok(())
-}
-
-fn command_and_wait(script: &mut Script, limit_us: usize) -> Flow {
-    write_enable(script)?;
-    script.written();
-    wait(script, limit_us)
-}
-
 fn quad_enabled(script: &mut Script) -> bool {
     let in_status2 = script.turns();
-    register(script, QUAD_IN_STATUS2, in_status2);
+    script.register(QUAD_IN_STATUS2, in_status2);
     if in_status2 {
         return true;
     }
     let in_status1 = script.turns();
-    register(script, QUAD_IN_STATUS1, in_status1);
+    script.register(QUAD_IN_STATUS1, in_status1);
     in_status1
 }
 
@@ -191,10 +157,10 @@ fn enable_quad(script: &mut Script) -> Flow {
         return Ok(());
     }
     for mask in [QUAD_IN_STATUS2, QUAD_IN_STATUS1] {
-        register(script, 0, false);
-        command_and_wait(script, STATUS_LIMIT_US)?;
+        script.register(0, false);
+        script.command_and_wait(STATUS)?;
         let sticks = script.turns();
-        register(script, mask, sticks);
+        script.register(mask, sticks);
         if sticks {
             return Ok(());
         }
@@ -205,11 +171,11 @@ fn enable_quad(script: &mut Script) -> Flow {
 fn disable_quad(script: &mut Script) -> Flow {
     for mask in [QUAD_IN_STATUS2, QUAD_IN_STATUS1] {
         let set = script.turns();
-        register(script, mask, set);
+        script.register(mask, set);
         if set {
-            command_and_wait(script, STATUS_LIMIT_US)?;
+            script.command_and_wait(STATUS)?;
             let stays = script.turns();
-            register(script, mask, stays);
+            script.register(mask, stays);
             return if stays { Err(Ended) } else { Ok(()) };
         }
     }
@@ -228,14 +194,14 @@ fn unprotect(script: &mut Script) -> Flow {
     });
     for locked in locks {
         if locked {
-            command_and_wait(script, STATUS_LIMIT_US)?;
+            script.command_and_wait(STATUS)?;
         }
     }
-    register(script, 0, false);
+    script.register(0, false);
     Ok(())
 }
 
-fn read(script: &mut Script, part: &Part, offset: u64, length: u64) -> Flow {
+fn read(script: &mut Script, part: &Nor, offset: u64, length: u64) -> Flow {
     if !part.device.holds(offset, length) {
         return Err(Ended);
     }
@@ -243,20 +209,13 @@ fn read(script: &mut Script, part: &Part, offset: u64, length: u64) -> Flow {
     while left > 0 {
         let piece = left.min(PIECE);
         let bytes = script.rng.bytes(piece as usize);
-        transfer_in(script, part, bytes);
+        script.transfer_in(part.quad, bytes);
         left -= piece;
     }
     Ok(())
 }
 
-fn transfer_in(script: &mut Script, part: &Part, bytes: Vec<u8>) {
-    if !part.quad {
-        script.written();
-    }
-    script.gives(bytes);
-}
-
-fn write(script: &mut Script, part: &Part, offset: u64, data: &[u8]) -> Flow {
+fn write(script: &mut Script, part: &Nor, offset: u64, data: &[u8]) -> Flow {
     let page = part.device.page;
     let length = data.len() as u64;
     let aligned = offset.is_multiple_of(page) && length.is_multiple_of(page);
@@ -264,31 +223,15 @@ fn write(script: &mut Script, part: &Part, offset: u64, data: &[u8]) -> Flow {
         return Err(Ended);
     }
     for chunk in data.chunks(page as usize) {
-        write_enable(script)?;
-        script.written();
-        if !part.quad {
-            script.written();
-        }
-        wait(script, PROGRAM_LIMIT_US)?;
-        read_back(script, part, chunk)?;
+        script.write_enable()?;
+        script.transfer_out(part.quad);
+        script.wait(PROGRAM)?;
+        script.read_back(part.quad, chunk)?;
     }
     Ok(())
 }
 
-fn read_back(script: &mut Script, part: &Part, data: &[u8]) -> Flow {
-    let mut bytes = data.to_vec();
-    let fails = script.fails();
-    if fails {
-        let last = bytes.len() - 1;
-        let inside = script.rng.below(bytes.len() as u64) as usize;
-        let place = script.rng.pick(&[0, last, inside]);
-        bytes[place] ^= 1 << script.rng.below(8);
-    }
-    transfer_in(script, part, bytes);
-    if fails { Err(Ended) } else { Ok(()) }
-}
-
-fn erase(script: &mut Script, part: &Part, from: u64, to: u64) -> Flow {
+fn erase(script: &mut Script, part: &Nor, from: u64, to: u64) -> Flow {
     let device = &part.device;
     let aligned = from.is_multiple_of(device.sector) && to.is_multiple_of(device.sector);
     if from > to || to > device.capacity || !aligned {
@@ -300,14 +243,14 @@ fn erase(script: &mut Script, part: &Part, from: u64, to: u64) -> Flow {
     Ok(())
 }
 
-fn erase_one(script: &mut Script, part: &Part, offset: u64, block: bool) -> Flow {
-    let (unit, limit_us) = if block {
-        (part.device.block, BLOCK_LIMIT_US)
+fn erase_one(script: &mut Script, part: &Nor, offset: u64, block: bool) -> Flow {
+    let (unit, timings) = if block {
+        (part.device.block, BLOCK)
     } else {
-        (part.device.sector, SECTOR_LIMIT_US)
+        (part.device.sector, SECTOR)
     };
     if !part.device.holds(offset, unit) || !offset.is_multiple_of(unit) {
         return Err(Ended);
     }
-    command_and_wait(script, limit_us)
+    script.command_and_wait(timings)
 }
