@@ -2,7 +2,7 @@
 use Prim.Native.Nat.{ℕ, zero, suc, _+_, _-_, _*_, _/_, _≤_, _<_}
 use mathlib.Core.Path.{_≡_, refl, ap, ap₂, sym, _∙_}
 use mathlib.Core.Bool.{Bool, true, false}
-use mathlib.Core.List.{List, [], _∷_, _++_}
+use mathlib.Core.List.{List, [], _∷_}
 use native.Mathlib.Omega.{arith}
 use native.Mathlib.Nat.{le-trans, le-mul-of-pos-right, zero-add, le-div-iff-mul-le, div-lt-iff-lt-mul}
 use lib.ListN.{length, drop, set, getD, drop-of-length-le}
@@ -11,7 +11,6 @@ use borrow.Author.Tests.{lt-ltb, le-ltb, le-leb, lt-leb, ne-eqb, eq-eqb}
 use Rattle.qspi.specs.Bytes.{deliveredOf}
 use Rattle.case_text.specs.Number.{digitOf, digitsIn, valueFrom, numberTo, numberIn, isHexOf, byteOf, bytesOf, pairsOver}
 use Rattle.case_text.specs.declared.word.Number.{Number}
-use Rattle.qspi.proofs.Cases.{by-order}
 
 module _ (radix : ℕ) (s : List ℕ) (i : ℕ) where
   pub digits-end : length s ≤ i → digitsIn radix (drop i s) ≡ true
@@ -30,7 +29,8 @@ module _ (radix : ℕ) (s : List ℕ) (i : ℕ) where
   unfolding valueFrom
   value-end value h = rw (drop-of-length-le s h) refl
 
-  pub value-on : (value : ℕ) → i < length s → valueFrom radix value (drop i s) ≡ valueFrom radix (value * radix + digitOf (getD s i 0)) (drop (suc i) s)
+  pub value-on : (value : ℕ) → i < length s →
+      valueFrom radix value (drop i s) ≡ valueFrom radix (value * radix + digitOf (getD s i 0)) (drop (suc i) s)
   unfolding valueFrom
   value-on value h = rw (drop-cons s i 0 h) refl
 
@@ -42,13 +42,13 @@ value-grows radix value (c ∷ cs) h =
     let m : value ≤ value * radix = le-mul-of-pos-right value h in
     le-trans (omega arith) (value-grows radix (value * radix + digitOf c) cs h)
 
--- where one more digit fits
-module _ (radix value most : ℕ) (h : 1 ≤ radix) where
-  pub value-fits : value ≤ most / radix → value * radix ≤ most
-  value-fits = le-div-iff-mul-le h .0
+-- one more digit, by the code's test of whether it fits
+module _ (radix value d : ℕ) (h : 1 ≤ radix) (l : d ≤ 18446744073709551615) where
+  pub value-fits : value ≤ (18446744073709551615 - d) / radix → value * radix + d ≤ 18446744073709551615
+  value-fits t = let m = le-div-iff-mul-le h .0 t in omega arith
 
-  pub value-past : most / radix < value → most < value * radix
-  value-past = div-lt-iff-lt-mul h .0
+  pub value-past : (18446744073709551615 - d) / radix < value → 18446744073709551615 < value * radix + d
+  value-past t = let m = div-lt-iff-lt-mul h .0 t in omega arith
 
 -- ---- the number of the digits
 
@@ -70,7 +70,8 @@ module _ (radix : ℕ) (s : List ℕ) where
     unfolding numberIn
     past l = rw (ne-eqb _ _ h) (sym (number-past (digitsIn radix s) (valueFrom radix 0 s) l))
 
-    pub some : (value : ℕ) → digitsIn radix s ≡ true → valueFrom radix 0 s ≡ value → value ≤ 18446744073709551615 → Number.Value value ≡ numberIn radix s
+    pub some : (value : ℕ) → digitsIn radix s ≡ true → valueFrom radix 0 s ≡ value → value ≤ 18446744073709551615 →
+        Number.Value value ≡ numberIn radix s
     unfolding numberIn
     some value e v l = rw (ne-eqb _ _ h, e, v, le-leb _ _ l) refl
 
@@ -137,7 +138,8 @@ module _ (s room : List ℕ) where
   pub delivered : length s / 2 ≤ length room → pairsOver s room ≡ deliveredOf room 0 (bytesOf s)
   delivered h =
       let n = length-bytes s in
-      rw (le-leb (length (bytesOf s)) (length room) (omega arith), le-leb 0 (length room - length (bytesOf s)) (omega arith)) (sym (pasted-pairs s room))
+      rw (le-leb (length (bytesOf s)) (length room) (omega arith), le-leb 0 (length room - length (bytesOf s)) (omega arith))
+      (sym (pasted-pairs s room))
 
   pub too-many : length room < length s / 2 → room ≡ deliveredOf room 0 (bytesOf s)
   too-many h = let n = length-bytes s in rw (lt-leb (length (bytesOf s)) (length room) (omega arith)) refl

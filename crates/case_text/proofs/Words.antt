@@ -1,10 +1,9 @@
 -- A scan of a text, at what stands at its place.
 use Prim.Native.Nat.{ℕ, zero, suc, _-_, _≤_, _<_}
 use mathlib.Core.Path.{_≡_, refl}
-use mathlib.Core.Bool.{Bool, true, false}
+use mathlib.Core.Bool.{true, false}
 use mathlib.Core.List.{List, []}
 use native.Mathlib.Omega.{arith}
-use native.Mathlib.Numerals.{add-one}
 use lib.ListN.{length, take, drop, getD, drop-of-length-le}
 use lib.Seq.{drop-cons}
 use lib.Dec.{leb}
@@ -48,7 +47,7 @@ same-end s t i h =
 
 -- ---- the words behind the first
 
-pub word-nil : (k : ℕ) → wordOf k [] ≡ []
+word-nil : (k : ℕ) → wordOf k [] ≡ []
 unfolding wordOf beforeOf
 word-nil zero = refl
 word-nil (suc k) = word-nil k
@@ -78,7 +77,8 @@ module _ (k : ℕ) (names name : List ℕ) where
   index-here zero h e = absurd (omega arith)
   index-here (suc more) h e = rw e refl
 
-  pub index-on : (more : ℕ) → 0 < more → sameOf (wordOf k names) name ≡ false → indexFrom more k names name ≡ indexFrom (more - 1) (suc k) names name
+  pub index-on : (more : ℕ) → 0 < more → sameOf (wordOf k names) name ≡ false →
+      indexFrom more k names name ≡ indexFrom (more - 1) (suc k) names name
   unfolding indexFrom
   index-on zero h e = absurd (omega arith)
   index-on (suc more) h e = let d : suc more - 1 ≡ more = omega arith in rw (e, d) refl

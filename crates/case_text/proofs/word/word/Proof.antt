@@ -57,7 +57,8 @@ loop-again c =
     let k = c .before .before .before .before .before .before .args .k in
     let left = now (l .left) in
     let n = c .before .before .before2 .result in
-    let e : take (length left - (n + 1)) (drop (n + 1) left) ≡ drop (n + 1) left = take-all (length left - (n + 1)) (drop (n + 1) left) (simp length-drop (omega arith)) in
+    let rest = drop (n + 1) left in
+    let e : take (length left - (n + 1)) rest ≡ rest = take-all (length left - (n + 1)) rest (simp length-drop (omega arith)) in
     let d : n + 1 ≡ suc (beforeOf 32 left) = omega (arith, c .before .before .before2 .ensures .0) in
     let f : k - (l .i + 1) ≡ k - l .i - 1 = omega arith in (
       rw (e, d, f) (sym (word-next left (k - l .i) (omega arith)) ∙ l .inv .0),
