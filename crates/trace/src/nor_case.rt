@@ -38,6 +38,8 @@ pub extern "C" fn nor_trace_case(
     out: &mut [u8],
 ) -> usize
     ensures { λ r. ⌜ textOf (now (out .exit)) r ≡ caseOf (now (text .entry)) (now (room .entry)) (now (reply .entry)) (now (out .entry)) .text ⌝ }
+    ensures { λ _. ⌜ now (room .exit) ≡ caseOf (now (text .entry)) (now (room .entry)) (now (reply .entry)) (now (out .entry)) .room ⌝ }
+    ensures { λ _. ⌜ now (reply .exit) ≡ caseOf (now (text .entry)) (now (room .entry)) (now (reply .entry)) (now (out .entry)) .reply ⌝ }
 {
     let mut scratch = [0u8; 264];
     let mut trace = state::start();

@@ -49,10 +49,8 @@ returns : tie.Need-returns Inv-loop μ-loop
 returns c =
     let at = c .before .before .before in
     let budget = at .before in
-    ap (λ (t : Turned). t .text)
-    (turns-over _ _ _ (sym (c .before .over .ensures) ∙ c .if1 .taken)
-    ∙ at .loop .inv .0
-    ∙ whole-case _ _ _ _ _ _ (budget .before .start .ensures) (budget .budget .ensures))
+    let e = turns-over _ _ _ (sym (c .before .over .ensures) ∙ c .if1 .taken) ∙ at .loop .inv .0 ∙ whole-case _ _ _ _ _ _ (budget .before .start .ensures) (budget .budget .ensures) in
+    (ap (λ (t : Turned). t .text) e, (ap (λ (t : Turned). t .room) e, ap (λ (t : Turned). t .reply) e))
 
 slice-aggregate-advance : tie.Need-slice-aggregate-advance Inv-loop μ-loop
 slice-aggregate-advance c = search needs
@@ -91,10 +89,8 @@ same-length-6 c = search needs
 returns-2 : tie.Need-returns-2 Inv-loop μ-loop
 returns-2 c =
     let budget = c .before .before in
-    ap (λ (t : Turned). t .text)
-    (turns-spent _ _ _ _ (c .loop-test .left)
-    ∙ c .before .loop .inv .0
-    ∙ whole-case _ _ _ _ _ _ (budget .before .start .ensures) (budget .budget .ensures))
+    let e = turns-spent _ _ _ _ (c .loop-test .left) ∙ c .before .loop .inv .0 ∙ whole-case _ _ _ _ _ _ (budget .before .start .ensures) (budget .budget .ensures) in
+    (ap (λ (t : Turned). t .text) e, (ap (λ (t : Turned). t .room) e, ap (λ (t : Turned). t .reply) e))
 
 pub nor-trace-case-spec : {M : Type 1} → statement M
 nor-trace-case-spec =
