@@ -1,16 +1,12 @@
 -- The values of an answer, in the order in which a trace prints them.
 use Prim.Native.Nat.{ℕ}
-use mathlib.Core.Bool.{Bool, true, false}
 use mathlib.Core.List.{List, [], _∷_, _++_}
+use Rattle.values.specs.Value.{flagValue}
 use Rattle.spi_nor.specs.declared.config.DeviceSetting.{DeviceSetting}
 use Rattle.spi_nor.specs.declared.config.NorDeviceInfo.{NorDeviceInfo}
 use Rattle.spi_nor.specs.declared.config.NorJedecId.{NorJedecId}
 use Rattle.spi_nor.specs.declared.config.QuadSetting.{QuadSetting}
 use Rattle.nor_answers.specs.declared.answer.Answer.{Answer}
-
-abbrev pub flagValue : Bool → ℕ
-flagValue true = 1
-flagValue false = 0
 
 abbrev pub idValues : NorJedecId → List ℕ
 idValues id = id .manufacturer ∷ id .«memory_type» ∷ id .capacity ∷ []

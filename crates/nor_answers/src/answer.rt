@@ -4,11 +4,12 @@ use spi_nor::config::NorDeviceInfo;
 use spi_nor::config::NorJedecId;
 use spi_nor::config::QuadSetting;
 use spi_nor::config::SpiNorConfig;
+use values::value;
 ghost use Prim.Native.Nat.{_≤_};
-ghost use mathlib.Core.List.{[], _∷_, _++_};
+ghost use mathlib.Core.List.{_++_};
 ghost use mathlib.Core.Path.{_≡_};
 ghost use lib.ListN.{getD, length};
-ghost use Rattle.nor_answers.specs.Answer.{flagValue, idValues, deviceValues, quadValues, ownValues, answerValues};
+ghost use Rattle.nor_answers.specs.Answer.{idValues, deviceValues, quadValues, ownValues, answerValues};
 
 // What a call that succeeds answers.
 pub enum Answer {
@@ -26,55 +27,30 @@ const ID_VALUES: usize = 3;
 
 const DEVICE_VALUES: usize = 4;
 
-// The mark 1 and the parameters.
-const QUAD_VALUES: usize = 5;
-
-fn flag(f: bool) -> u64
-    ensures { λ r. ⌜ r ≡ flagValue f ⌝ }
-{
-    if f { 1 } else { 0 }
-}
-
-fn one(v: u64, i: usize) -> u64
-    ensures { λ r. ⌜ r ≡ getD (v ∷ []) i 0 ⌝ }
-{
-    match i {
-        0 => v,
-        _ => 0,
-    }
-}
-
-fn pair(first: u64, second: u64, i: usize) -> u64
-    ensures { λ r. ⌜ r ≡ getD (first ∷ second ∷ []) i 0 ⌝ }
-{
-    match i {
-        0 => first,
-        1 => second,
-        _ => 0,
-    }
-}
+// The mark 1 and four numbers.
+const SET_VALUES: usize = 5;
 
 fn id_value(id: NorJedecId, i: usize) -> u64
     ensures { λ r. ⌜ r ≡ getD (idValues id) i 0 ⌝ }
 {
-    match i {
-        0 => id.manufacturer as u64,
-        1 => id.memory_type as u64,
-        2 => id.capacity as u64,
-        _ => 0,
-    }
+    value::triple(
+        id.manufacturer as u64,
+        id.memory_type as u64,
+        id.capacity as u64,
+        i,
+    )
 }
 
 fn device_value(device: NorDeviceInfo, i: usize) -> u64
     ensures { λ r. ⌜ r ≡ getD (deviceValues device) i 0 ⌝ }
 {
-    match i {
-        0 => device.capacity as u64,
-        1 => device.sector_size as u64,
-        2 => device.block_size as u64,
-        3 => device.page_size as u64,
-        _ => 0,
-    }
+    value::four(
+        device.capacity as u64,
+        device.sector_size as u64,
+        device.block_size as u64,
+        device.page_size as u64,
+        i,
+    )
 }
 
 fn quad_count(quad: QuadSetting) -> usize
@@ -83,7 +59,7 @@ fn quad_count(quad: QuadSetting) -> usize
 {
     match quad {
         QuadSetting::Single => 1,
-        QuadSetting::Quad(_) => QUAD_VALUES,
+        QuadSetting::Quad(_) => SET_VALUES,
     }
 }
 
@@ -91,15 +67,15 @@ fn quad_value(quad: QuadSetting, i: usize) -> u64
     ensures { λ r. ⌜ r ≡ getD (quadValues quad) i 0 ⌝ }
 {
     match quad {
-        QuadSetting::Single => one(0, i),
-        QuadSetting::Quad(q) => match i {
-            0 => 1,
-            1 => q.tclqv_ns as u64,
-            2 => q.read_opcode as u64,
-            3 => q.page_program_opcode as u64,
-            4 => q.dummy_margin as u64,
-            _ => 0,
-        },
+        QuadSetting::Single => value::one(0, i),
+        QuadSetting::Quad(q) => value::five(
+            1,
+            q.tclqv_ns as u64,
+            q.read_opcode as u64,
+            q.page_program_opcode as u64,
+            q.dummy_margin as u64,
+            i,
+        ),
     }
 }
 
@@ -109,7 +85,7 @@ fn own_count(device: DeviceSetting) -> usize
 {
     match device {
         DeviceSetting::Detect => 1,
-        DeviceSetting::Given(_) => 1 + DEVICE_VALUES,
+        DeviceSetting::Given(_) => SET_VALUES,
     }
 }
 
@@ -117,11 +93,15 @@ fn own_value(device: DeviceSetting, i: usize) -> u64
     ensures { λ r. ⌜ r ≡ getD (ownValues device) i 0 ⌝ }
 {
     match device {
-        DeviceSetting::Detect => one(0, i),
-        DeviceSetting::Given(d) => match i {
-            0 => 1,
-            _ => device_value(d, i - 1),
-        },
+        DeviceSetting::Detect => value::one(0, i),
+        DeviceSetting::Given(d) => value::five(
+            1,
+            d.capacity as u64,
+            d.sector_size as u64,
+            d.block_size as u64,
+            d.page_size as u64,
+            i,
+        ),
     }
 }
 
@@ -172,11 +152,11 @@ impl Answer {
     {
         match self {
             Answer::Done => 0,
-            Answer::Byte(b) => one(b as u64, i),
-            Answer::Flag(f) => one(flag(f), i),
+            Answer::Byte(b) => value::one(b as u64, i),
+            Answer::Flag(f) => value::one(value::flag(f), i),
             Answer::Id(id) => id_value(id, i),
-            Answer::UniqueId(v) => one(v, i),
-            Answer::Unprotected { before, after } => pair(before as u64, after as u64, i),
+            Answer::UniqueId(v) => value::one(v, i),
+            Answer::Unprotected { before, after } => value::pair(before as u64, after as u64, i),
             Answer::Device(device) => device_value(device, i),
             Answer::Config(config) => config_value(config, i),
         }

@@ -53,6 +53,13 @@ pageCountOf g = saturating (g .«pages_per_block» * g .«block_count»)
 unfoldable pub capacityOf : NandGeometry → ℕ
 capacityOf g = saturating (g .«page_size» * g .«pages_per_block» * g .«block_count»)
 
+-- the Rust's `page_size + oob_size` and `block * pages_per_block`
+unfoldable pub cacheSizeOf : NandGeometry → ℕ
+cacheSizeOf g = saturating (g .«page_size» + g .«oob_size»)
+
+unfoldable pub firstPageOf : NandGeometry → ℕ → ℕ
+firstPageOf g block = saturating (block * g .«pages_per_block»)
+
 -- "page, pages per block and blocks at least 1, spare 0 or more, page + spare at most 65,535, at most 16,777,216 pages in all"
 unfoldable pub inBounds : NandGeometry → Bool
 inBounds g =

@@ -4,7 +4,7 @@ use crate::status::Configuration;
 use crate::status::Protection;
 ghost use mathlib.Core.Path.{_≡_};
 ghost use Prim.Native.Nat.{_*_};
-ghost use Rattle.spi_nand.specs.Config.{jedecIdOf, saturating, blockSizeOf, pageCountOf, capacityOf, inBounds, fromJedec, QUAD-W25N01GV, singleConfig, quadConfig};
+ghost use Rattle.spi_nand.specs.Config.{jedecIdOf, saturating, blockSizeOf, pageCountOf, capacityOf, cacheSizeOf, firstPageOf, inBounds, fromJedec, QUAD-W25N01GV, singleConfig, quadConfig};
 
 // What READ ID answers.
 pub struct NandJedecId {
@@ -116,6 +116,24 @@ impl NandGeometry {
         ensures { λ r. ⌜ r ≡ capacityOf self ⌝ }
     {
         saturating_mul(self.block_size(), self.block_count)
+    }
+
+    // Bytes of the cache: a page and its spare bytes.
+    pub fn cache_size(self) -> usize
+        ensures { λ r. ⌜ r ≡ cacheSizeOf self ⌝ }
+    {
+        if self.page_size <= usize::MAX - self.oob_size {
+            self.page_size + self.oob_size
+        } else {
+            usize::MAX
+        }
+    }
+
+    // The first page of a block.
+    pub fn first_page(self, block: usize) -> usize
+        ensures { λ r. ⌜ r ≡ firstPageOf self block ⌝ }
+    {
+        saturating_mul(block, self.pages_per_block)
     }
 
     // Whether the driver takes this geometry from a caller.

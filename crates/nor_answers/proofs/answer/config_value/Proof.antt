@@ -1,6 +1,6 @@
 use Rattle.nor_answers.specs.Answer.{quadValues, ownValues}
 use mathlib.Core.Path.{_∙_}
-use Rattle.nor_answers.proofs.Values.{in-first, in-second}
+use Rattle.values.proofs.Values.{in-first, in-second}
 use borrow.Author.Needs.{needs}
 use Rattle.nor_answers.proofs.answer.config_value.Statement.{statement}
 use Rattle.nor_answers.proofs.answer.config_value.Tie as tie

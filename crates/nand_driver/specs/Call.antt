@@ -1,0 +1,93 @@
+-- How each call begins, and how it is turned away (document 01, "Who can cause a refusal": 13, 14, 12, then the Rust's).
+use Prim.Native.Nat.{ℕ}
+use mathlib.Core.Bool.{Bool, true, false}
+use lib.Dec.{ltb}
+use Rattle.qspi.specs.Choice.{pick}
+use Rattle.qspi.specs.Command.{scratchLeast}
+use Rattle.qspi.specs.declared.transfer.Transfer.{Transfer}
+use Rattle.spi_flash.specs.declared.error.FlashError.{FlashError}
+use Rattle.spi_flash.specs.declared.loan.Takes.{Takes}
+use Rattle.spi_nand.specs.Config.{W25N01GV, inBounds, singleConfig, UNKNOWN}
+use Rattle.spi_nand.specs.declared.config.GeometrySetting.{GeometrySetting}
+use Rattle.spi_nand.specs.declared.config.NandGeometry.{NandGeometry}
+use Rattle.spi_nand.specs.declared.config.SpiNandConfig.{SpiNandConfig}
+use Rattle.nand_answers.specs.declared.answer.Answer.{Answer}
+use Rattle.nand_phases.specs.declared.phase.Phase.{Phase}
+use Rattle.nand_phases.specs.declared.setup.Setup.{Setup}
+use Rattle.nand_next.specs.Go.{goTo}
+use Rattle.nand_next.specs.Call.{openingOf}
+use Rattle.nand_next.specs.declared.call.Call.{Call}
+use Rattle.nand_next.specs.declared.call.Opening.{Opening}
+use Rattle.nand_next.specs.declared.then.Then.{Then}
+use Rattle.nand_driver.specs.Step.{flashOf, refusedOf, settledOf}
+use Rattle.nand_driver.specs.declared.state.Given.{Given}
+use Rattle.nand_driver.specs.declared.state.Running.{Running}
+use Rattle.nand_driver.specs.declared.state.SpiNandFlash.{SpiNandFlash}
+use Rattle.nand_driver.specs.declared.state.Stepped.{Stepped}
+
+-- with_config: what stands in the struct before the id is known
+abbrev pub givenAt : GeometrySetting → NandGeometry
+givenAt GeometrySetting.Detect = W25N01GV
+givenAt (GeometrySetting.Given geometry) = geometry
+
+abbrev pub givenGeometry : SpiNandConfig → NandGeometry
+givenGeometry config = givenAt (config .geometry)
+
+abbrev pub freshSetup : SpiNandConfig → Setup
+freshSetup config = record { config = config; geometry = givenGeometry config; init = UNKNOWN }
+
+-- a driver before any construction
+abbrev pub notBuilt : SpiNandFlash
+notBuilt = flashOf (freshSetup singleConfig) false 0 Running.Idle
+
+-- a construction may begin whenever no call is running; from its first action on the driver is not built
+unfoldable pub constructedOf : SpiNandFlash → SpiNandConfig → ℕ → Stepped
+constructedOf flash config scratch =
+    pick (ltb scratch scratchLeast) (refusedOf flash FlashError.Misfit)
+    (pick (inBounds (givenGeometry config))
+    (settledOf (flashOf (freshSetup config) false 0 Running.Idle) Takes.Nothing (goTo (freshSetup config) Transfer.Raise Phase.Raised))
+    (refusedOf flash FlashError.InvalidGeometry))
+
+-- info, config, geometry: they take no scratch and change nothing
+unfoldable pub toldOf : SpiNandFlash → Answer → Stepped
+toldOf flash answer = pick (flash .built) (record { flash = flash; given = Given.Ended answer }) (refusedOf flash FlashError.OutOfTurn)
+
+-- free leaves the driver not built: the Rust moves the value away
+unfoldable pub freedOf : SpiNandFlash → Stepped
+freedOf flash =
+    pick (flash .built)
+    (record { flash = flashOf (flash .setup) false (flash .delivered) Running.Idle; given = Given.Ended Answer.Done })
+    (refusedOf flash FlashError.OutOfTurn)
+
+-- a call that begins has delivered nothing yet
+abbrev pub freshCall : SpiNandFlash → SpiNandFlash
+freshCall flash = flashOf (flash .setup) (flash .built) 0 Running.Idle
+
+-- "A call turned away before its first action, by caller or host, has not begun"
+unfoldable pub openedOf : SpiNandFlash → Takes → Then → Stepped
+openedOf flash takes (Then.Go setup transfer phase) = settledOf (freshCall flash) takes (Then.Go setup transfer phase)
+openedOf flash takes (Then.End setup answer) = settledOf (freshCall flash) takes (Then.End setup answer)
+openedOf flash takes (Then.Fail error) = refusedOf flash error
+
+unfoldable pub begunOf : SpiNandFlash → ℕ → Takes → Then → Stepped
+begunOf flash scratch takes then =
+    pick (flash .built)
+    (pick (ltb scratch scratchLeast) (refusedOf flash FlashError.Misfit)
+    (pick (inBounds (flash .setup .geometry)) (openedOf flash takes then) (refusedOf flash FlashError.InvalidGeometry)))
+    (refusedOf flash FlashError.OutOfTurn)
+
+-- ---- every call, with the lengths of what is lent: scratch, buffer, data
+
+unfoldable pub idleOf : SpiNandFlash → Opening → ℕ → Stepped
+idleOf flash (Opening.Constructs config) s = constructedOf flash config s
+idleOf flash (Opening.Tells answer) s = toldOf flash answer
+idleOf flash Opening.Releases s = freedOf flash
+idleOf flash (Opening.Uses takes then) s = begunOf flash s takes then
+
+abbrev pub beginAt : Running → SpiNandFlash → Call → ℕ → ℕ → ℕ → Stepped
+beginAt Running.Idle flash call s b d = idleOf flash (openingOf (flash .setup) call b d) s
+beginAt (Running.Busy job) flash call s b d = refusedOf flash FlashError.OutOfTurn
+
+-- a call begun during another is 13
+unfoldable pub beginOf : SpiNandFlash → Call → ℕ → ℕ → ℕ → Stepped
+beginOf flash call s b d = beginAt (flash .running) flash call s b d

@@ -1,0 +1,92 @@
+-- A step: one reply to the action that is out (document 01, "Actions and replies", "Who can cause a refusal").
+use Prim.Native.Nat.{ℕ}
+use mathlib.Core.Bool.{Bool, true, false}
+use mathlib.Core.List.{List}
+use lib.ListN.{length, take}
+use Rattle.qspi.specs.Choice.{pick}
+use Rattle.frames.specs.Frame.{AfterExchange, firstOf, actionOf, exchangeOf, deliveredBy}
+use Rattle.qspi.specs.declared.bus.Action.{Action}
+use Rattle.qspi.specs.declared.bus.Reply.{Reply}
+use Rattle.frames.specs.declared.frame.Exchanged.{Exchanged}
+use Rattle.frames.specs.declared.frame.Frame.{Frame}
+use Rattle.spi_flash.specs.Loan.{readyOf}
+use Rattle.spi_flash.specs.declared.error.FlashError.{FlashError}
+use Rattle.spi_flash.specs.declared.loan.Takes.{Takes}
+use Rattle.nand_next.specs.Next.{nextOf}
+use Rattle.nand_answers.specs.declared.answer.Answer.{Answer}
+use Rattle.nand_phases.specs.declared.setup.Setup.{Setup}
+use Rattle.nand_next.specs.declared.then.Then.{Then}
+use Rattle.nand_driver.specs.declared.state.Given.{Given}
+use Rattle.nand_driver.specs.declared.state.Job.{Job}
+use Rattle.nand_driver.specs.declared.state.Running.{Running}
+use Rattle.nand_driver.specs.declared.state.SpiNandFlash.{SpiNandFlash}
+use Rattle.nand_driver.specs.declared.state.Stepped.{Stepped}
+
+-- the result of a step, and the lent bytes after it
+pub record Moved : Type 0 where
+  pub stepped : Stepped
+  pub scratch : List ℕ
+  pub buffer : List ℕ
+
+abbrev pub movedTo : Stepped → List ℕ → List ℕ → Moved
+movedTo x scratch buffer = record { stepped = x; scratch = scratch; buffer = buffer }
+
+abbrev pub flashOf : Setup → Bool → ℕ → Running → SpiNandFlash
+flashOf setup built delivered running = record { setup = setup; built = built; delivered = delivered; running = running }
+
+abbrev pub refusedOf : SpiNandFlash → FlashError → Stepped
+refusedOf flash error = record { flash = flash; given = Given.Refused error }
+
+abbrev pub startedOf : SpiNandFlash → Action → Stepped
+startedOf flash action = record { flash = flash; given = Given.Act action }
+
+-- a call that has succeeded leaves the driver built
+abbrev pub endedOf : Setup → ℕ → Answer → Stepped
+endedOf setup delivered answer = record { flash = flashOf setup true delivered Running.Idle; given = Given.Ended answer }
+
+abbrev pub failedOf : SpiNandFlash → FlashError → Stepped
+failedOf flash error = record { flash = flashOf (flash .setup) (flash .built) (flash .delivered) Running.Idle; given = Given.Failed error }
+
+-- gives out the first action of the next transfer, or ends the call
+unfoldable pub settledOf : SpiNandFlash → Takes → Then → Stepped
+settledOf flash takes (Then.Go setup transfer phase) =
+    startedOf
+    (flashOf setup (flash .built) (flash .delivered) (Running.Busy (record { phase = phase; frame = firstOf transfer; takes = takes })))
+    (actionOf (firstOf transfer))
+settledOf flash takes (Then.End setup answer) = endedOf setup (flash .delivered) answer
+settledOf flash takes (Then.Fail error) = failedOf flash error
+
+-- another action of the transfer that is out
+abbrev pub gaveOf : SpiNandFlash → Job → Frame → ℕ → Action → Stepped
+gaveOf flash job next delivered action =
+    startedOf
+    (flashOf (flash .setup) (flash .built) delivered (Running.Busy (record { phase = job .phase; frame = next; takes = job .takes })))
+    action
+
+abbrev pub exchangedThen : SpiNandFlash → Job → ℕ → Exchanged → Stepped
+exchangedThen flash job delivered Exchanged.Misfit = refusedOf flash FlashError.Misfit
+exchangedThen flash job delivered (Exchanged.Gave next action) = gaveOf flash job next delivered action
+exchangedThen flash job delivered (Exchanged.Over outcome) = settledOf flash (job .takes) (nextOf (flash .setup) (job .phase) outcome)
+
+abbrev pub afterwards : SpiNandFlash → Job → ℕ → AfterExchange → Moved
+afterwards flash job delivered x = movedTo (exchangedThen flash job delivered (x .exchanged)) (x .scratch) (x .buffer)
+
+-- lent bytes that are not fit for a step, or a reply that does not fit, change nothing: 14
+unfoldable pub proceedOf : SpiNandFlash → Job → Reply → List ℕ → List ℕ → List ℕ → List ℕ → Moved
+proceedOf flash job reply bytes scratch buffer lent =
+    pick (readyOf (job .takes) (length scratch) (length buffer) (length lent))
+    (afterwards flash job (deliveredBy (job .frame) reply (length bytes) (length buffer) (flash .delivered))
+    (exchangeOf (job .frame) reply bytes scratch buffer lent))
+    (movedTo (refusedOf flash FlashError.Misfit) scratch buffer)
+
+abbrev pub stepAt : Running → SpiNandFlash → Reply → List ℕ → List ℕ → List ℕ → List ℕ → Moved
+stepAt Running.Idle flash reply bytes scratch buffer lent = movedTo (refusedOf flash FlashError.OutOfTurn) scratch buffer
+stepAt (Running.Busy job) flash reply bytes scratch buffer lent = proceedOf flash job reply bytes scratch buffer lent
+
+-- a reply with none expected is 13
+unfoldable pub stepOf : SpiNandFlash → Reply → List ℕ → List ℕ → List ℕ → List ℕ → Moved
+stepOf flash reply bytes scratch buffer lent = stepAt (flash .running) flash reply bytes scratch buffer lent
+
+-- the part of the caller's buffer that holds the bytes read by the last call begun
+abbrev pub deliveredPart : SpiNandFlash → List ℕ → List ℕ
+deliveredPart flash buffer = take (flash .delivered) buffer

@@ -1,0 +1,5 @@
+pub mod Go
+pub mod Register
+pub mod Page
+pub mod Next
+pub mod Call

@@ -1,0 +1,4 @@
+// Where a call of SpiNandFlash stands (nand/driver.rs), what it works on, and its transfers.
+pub mod phase;
+pub mod setup;
+pub mod transfer;

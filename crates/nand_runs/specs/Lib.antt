@@ -1,0 +1,2 @@
+pub mod Rust
+pub mod Program

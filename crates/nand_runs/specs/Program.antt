@@ -1,0 +1,50 @@
+-- The Rust's program of each call, with the answer and the driver that it leaves behind; and the program that the port follows, which
+-- differs in one place.
+use Prim.Native.Nat.{ℕ}
+use lib.Dec.{ltb}
+use Rattle.qspi.specs.declared.transfer.Sink.{Sink}
+use Rattle.spi_flash.specs.Prog.{Prog, ret, _>>=_, _>>_, refuse}
+use Rattle.spi_flash.specs.declared.error.FlashError.{FlashError}
+use Rattle.spi_nand.specs.Config.{singleConfig}
+use Rattle.spi_nand.specs.declared.config.SpiNandConfig.{SpiNandConfig}
+use Rattle.nand_answers.specs.declared.answer.Answer.{Answer}
+use Rattle.nand_phases.specs.declared.setup.Setup.{Setup}
+use Rattle.nand_next.specs.Register.{MAX-VERIFY-PAGE-SIZE}
+use Rattle.nand_next.specs.declared.call.Call.{Call}
+use Rattle.nand_runs.specs.Rust.{read-status, read-configuration, read-protection, write-enable, write-register, disable-quad, reset, jedec-id, reset-and-identify, ensure-configuration, unprotect, bring-up, page-read, read-cache, load-program-data, program-execute, read-page, write-page, erase-block, is-bad-block, resolved, constructed, identification, with-config, new}
+
+-- the answer, and what the Rust's struct holds afterwards
+pub record Left : Type 0 where
+  pub answer : Answer
+  pub setup : Setup
+
+abbrev pub leaving : Setup → Answer → Left
+leaving setup answer = record { answer = answer; setup = setup }
+
+-- with a buffer of b bytes and data of d bytes
+unfoldable pub rustProgram : Setup → Call → ℕ → ℕ → Prog Left
+rustProgram flash Call.New b d = new >>= (λ built. ret (leaving built Answer.Done))
+rustProgram flash (Call.WithConfig config) b d = with-config config >>= (λ built. ret (leaving built Answer.Done))
+rustProgram flash Call.Info b d = ret (leaving flash (Answer.Info (flash .init)))
+rustProgram flash Call.Config b d = ret (leaving flash (Answer.Config (flash .config)))
+rustProgram flash Call.Geometry b d = ret (leaving flash (Answer.Geometry (flash .geometry)))
+rustProgram flash Call.Free b d = ret (leaving flash Answer.Done)
+rustProgram flash Call.DisableQuad b d = disable-quad >> ret (leaving flash Answer.Done)
+rustProgram flash (Call.WriteRegister register value) b d = write-register register value >> ret (leaving flash Answer.Done)
+rustProgram flash Call.WriteEnable b d = write-enable >> ret (leaving flash Answer.Done)
+rustProgram flash Call.ReadStatus b d = read-status >>= (λ status. ret (leaving flash (Answer.Status status)))
+rustProgram flash Call.ReadConfiguration b d = read-configuration >>= (λ c. ret (leaving flash (Answer.Configuration c)))
+rustProgram flash Call.ReadProtection b d = read-protection >>= (λ p. ret (leaving flash (Answer.Protection p)))
+rustProgram flash Call.Reset b d = reset >> ret (leaving flash Answer.Done)
+rustProgram flash Call.JedecId b d = jedec-id >>= (λ id. ret (leaving flash (Answer.Id id)))
+rustProgram flash Call.ResetAndIdentify b d = reset-and-identify >>= (λ id. ret (leaving flash (Answer.Id id)))
+rustProgram flash Call.EnsureConfiguration b d = ensure-configuration (flash .config) >>= (λ before. ret (leaving flash (Answer.Configuration before)))
+rustProgram flash Call.Unprotect b d = unprotect >>= (λ before. ret (leaving flash (Answer.Protection before)))
+rustProgram flash (Call.PageRead page) b d = page-read flash page >> ret (leaving flash Answer.Done)
+rustProgram flash (Call.ReadCache column) b d = read-cache flash column b (Sink.Buffer 0) >> ret (leaving flash Answer.Done)
+rustProgram flash (Call.LoadProgramData column) b d = load-program-data flash column d >> ret (leaving flash Answer.Done)
+rustProgram flash (Call.ProgramExecute page) b d = program-execute flash page >> ret (leaving flash Answer.Done)
+rustProgram flash (Call.ReadPage page) b d = read-page flash page b (Sink.Buffer 0) >> ret (leaving flash Answer.Done)
+rustProgram flash (Call.WritePage page) b d = write-page flash page d >> ret (leaving flash Answer.Done)
+rustProgram flash (Call.EraseBlock block) b d = erase-block flash block >> ret (leaving flash Answer.Done)
+rustProgram flash (Call.IsBadBlock block) b d = is-bad-block flash block >>= (λ bad. ret (leaving flash (Answer.Flag bad)))
