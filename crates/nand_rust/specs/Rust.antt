@@ -3,7 +3,7 @@
 -- commands of spi_nand.
 -- `transfer` is one select frame of the Rust (`command`, `command_then_read`, or a quad call between cs_low and cs_high) or one
 -- delay; a bus error in it ends the call, as `?` does. Their bus calls are in `OnBus.antt` of spi_flash.
-use Prim.Native.Nat.{ℕ, _*_, _%_}
+use Prim.Native.Nat.{ℕ, zero, suc, _+_, _-_, _*_, _/_, _%_}
 use mathlib.Core.Bool.{Bool, true, false, not}
 use lib.Bits.{bitOr}
 use lib.Dec.{ltb, eqb}
@@ -17,10 +17,8 @@ use Rattle.spi_nand.specs.Opcode.{REG-STATUS, REG-CONFIGURATION, REG-BLOCK-PROT
 use Rattle.spi_nand.specs.Status.{busyValue, statusOf, writeEnabledOf, eraseFailedOf, programFailedOf, verdictOf, ECC-ENABLE, BUFFER-READ, QUAD-ENABLE, OPERATIONAL, configurationOf, configurationByte, quadEnabledOf, withBits, sameConfiguration, protectionOf, isUnlocked}
 use Rattle.spi_nand.specs.Config.{pageCountOf, singleConfig, fromJedec}
 use Rattle.spi_nand.specs.Command.{resetCommand, getFeatureCommand, setFeatureCommand, writeEnableCommand, pageReadCommand, programExecuteCommand, blockEraseCommand}
-use Rattle.nand_phases.specs.Transfer.{registerTransfer, idTransfer, cacheReadTransfer, cacheLoadTransfer, inCache}
+use Rattle.nand_phases.specs.Transfer.{registerTransfer, idTransfer, cacheReadTransfer, cacheLoadTransfer, inCache, inRange, placeOf, pageAt, columnAt, chunkOf, fillerOf}
 use Rattle.nand_phases.specs.Setup.{initOf, setupOf}
-use Rattle.nand_next.specs.Register.{MAX-VERIFY-PAGE-SIZE, idOf}
-use Rattle.nand_next.specs.Page.{GOOD-MARKER}
 use Rattle.spi_nand.specs.declared.config.GeometrySetting.{GeometrySetting}
 use Rattle.spi_nand.specs.declared.config.NandGeometry.{NandGeometry}
 use Rattle.spi_nand.specs.declared.config.NandInit.{NandInit}
@@ -36,6 +34,10 @@ use Rattle.nand_phases.specs.declared.setup.Setup.{Setup}
 
 abbrev pub Nothing : Type 0
 Nothing = Unit {0}
+
+-- const MAX_VERIFY_PAGE_SIZE
+abbrev pub MAX-VERIFY-PAGE-SIZE : ℕ
+MAX-VERIFY-PAGE-SIZE = 4096
 
 -- fn read_register
 abbrev pub read-register : ℕ → Prog ℕ
@@ -96,11 +98,14 @@ reset = do
   transfer (Transfer.Send resetCommand)
   wait-ready Operation.Reset
 
--- fn jedec_id
+-- fn jedec_id: from_bytes of the three bytes, which are a number here
+abbrev pub id-of : ℕ → NandJedecId
+id-of v = record { manufacturer = v / 65536 % 256; device = v % 65536 }
+
 unfoldable pub jedec-id : Prog NandJedecId
 jedec-id = do
   v ← transfer idTransfer
-  ret (idOf v)
+  ret (id-of v)
 
 -- fn reset_and_identify
 unfoldable pub reset-and-identify : Prog NandJedecId
@@ -135,9 +140,10 @@ unprotect = do
   if not (isUnlocked before) then write-register REG-BLOCK-PROTECTION 0x00 else ret tt
   ret before
 
--- fn bring_up, behind the identification
-unfoldable pub bring-up : SpiNandConfig → NandJedecId → Prog NandInit
-bring-up config id = do
+-- fn bring_up
+unfoldable pub bring-up : SpiNandConfig → Prog NandInit
+bring-up config = do
+  id ← reset-and-identify
   before ← ensure-configuration config
   protection ← unprotect
   after ← read-configuration
@@ -182,11 +188,11 @@ module _ (flash : Setup) where
     check-cache-range column n
     transfer (cacheReadTransfer (flash .config) column n sink)
 
-  -- fn load_program_data, of the caller's data
-  unfoldable pub load-program-data : ℕ → ℕ → Prog Nothing
-  load-program-data column n = do
+  -- fn load_program_data, of so many bytes
+  unfoldable pub load-program-data : ℕ → ℕ → Payload → Prog Nothing
+  load-program-data column n payload = do
     check-cache-range column n
-    transfer (cacheLoadTransfer (flash .config) column (Payload.Data 0 n))
+    transfer (cacheLoadTransfer (flash .config) column payload)
     ret tt
 
   -- fn program_execute
@@ -211,7 +217,7 @@ module _ (flash : Setup) where
     refuse (not (eqb n (geometry .«page_size»))) FlashError.InvalidLength
     check-page page
     write-enable
-    load-program-data 0 n
+    load-program-data 0 n (Payload.Data 0 n)
     program-execute page
     same ← read-page page (geometry .«page_size») (Sink.Compare 0)
     refuse (eqb same 0) FlashError.VerifyFailed
@@ -230,13 +236,58 @@ module _ (flash : Setup) where
     status ← read-status
     refuse (eraseFailedOf status) FlashError.EraseFailed
 
+  -- fn read: its loop, by fuel; a piece is never empty, so the bytes that are left are fuel enough
+  unfoldable pub read-loop : ℕ → ℕ → ℕ → ℕ → Prog Nothing
+  read-loop zero offset len done = ret tt
+  read-loop (suc fuel) offset len done =
+      if ltb done len
+      then (do
+        page-read (pageAt geometry (placeOf offset done))
+        read-cache (columnAt geometry (placeOf offset done)) (chunkOf geometry offset len done) (Sink.Buffer done)
+        read-loop fuel offset len (done + chunkOf geometry offset len done))
+      else ret tt
+
+  unfoldable pub reading : ℕ → ℕ → ℕ → Prog Nothing
+  reading offset len done = read-loop (len - done) offset len done
+
+  unfoldable pub read : ℕ → ℕ → Prog Nothing
+  read offset len = do
+    refuse (not (inRange geometry offset len)) FlashError.OutOfBounds
+    reading offset len 0
+
   -- fn is_bad_block
   unfoldable pub is-bad-block : ℕ → Prog Bool
   is-bad-block block = do
     check-block block
     load-page (block * geometry .«pages_per_block»)
     marker ← read-cache (geometry .«page_size») 1 Sink.Number
-    ret (not (eqb (marker % 256) GOOD-MARKER))
+    ret (not (eqb (marker % 256) 0xFF))
+
+  -- fn mark_bad_block: its loop over the filler, by fuel; a piece is never empty
+  unfoldable pub fill-loop : ℕ → ℕ → Prog Nothing
+  fill-loop zero column = ret tt
+  fill-loop (suc fuel) column =
+      if ltb column (geometry .«page_size»)
+      then (do
+        load-program-data column (fillerOf geometry column) (Payload.Filler (fillerOf geometry column))
+        fill-loop fuel (column + fillerOf geometry column))
+      else ret tt
+
+  unfoldable pub filling : ℕ → Prog Nothing
+  filling column = fill-loop (geometry .«page_size» - column) column
+
+  unfoldable pub mark-bad-block : ℕ → Prog Nothing
+  mark-bad-block block = do
+    check-block block
+    bad ← is-bad-block block
+    if bad then ret tt else do
+      erase-block block
+      write-enable
+      filling 0
+      load-program-data (geometry .«page_size») 1 Payload.Marker
+      program-execute (block * geometry .«pages_per_block»)
+      marked ← is-bad-block block
+      refuse (not marked) FlashError.VerifyFailed
 
 -- fn with_config
 abbrev pub resolved : GeometrySetting → NandJedecId → NandGeometry
@@ -246,16 +297,10 @@ resolved (GeometrySetting.Given own) id = own
 abbrev pub constructed : SpiNandConfig → NandInit → Setup
 constructed config init = setupOf config (resolved (config .geometry) (init .id)) init
 
--- select raised, and `reset_and_identify`, with which bring_up begins
-unfoldable pub identification : Prog NandJedecId
-identification = do
-  transfer Transfer.Raise
-  reset-and-identify
-
 unfoldable pub with-config : SpiNandConfig → Prog Setup
 with-config config = do
-  id ← identification
-  init ← bring-up config id
+  transfer Transfer.Raise
+  init ← bring-up config
   refuse (ltb MAX-VERIFY-PAGE-SIZE (constructed config init .geometry .«page_size»)) FlashError.NotSupported
   ret (constructed config init)
 

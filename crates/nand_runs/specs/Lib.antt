@@ -1,2 +1,0 @@
-pub mod Rust
-pub mod Program

@@ -1,0 +1,4 @@
+pub mod Rust
+pub mod Program
+pub mod Bound
+pub mod ProgramBounds
