@@ -1,0 +1,2 @@
+pub mod ReadLoop
+pub mod FillLoop
