@@ -13,19 +13,19 @@ use Rattle.spi_flash.specs.Seen.{lentTo, unlessRefused, Taken}
 
 -- ---- the bytes read
 
--- the bytes of a data reply
-abbrev pub dataAt : Reply → List ℕ → List ℕ
-dataAt Reply.Done bytes = []
-dataAt Reply.Data bytes = bytes
-dataAt (Reply.Error code) bytes = []
+-- the bytes of a data reply, if they are the caller's
+abbrev pub dataAt : Bool → Reply → List ℕ → List ℕ
+dataAt mine Reply.Done bytes = []
+dataAt mine Reply.Data bytes = pick mine bytes []
+dataAt mine (Reply.Error code) bytes = []
 
-abbrev pub dataIn : {C : Type 0} → Event C → List ℕ
-dataIn (reply r bytes l) = dataAt r bytes
-dataIn (call c l) = []
+abbrev pub dataIn : {C : Type 0} → Bool → Event C → List ℕ
+dataIn mine (reply r bytes l) = dataAt mine r bytes
+dataIn mine (call c l) = []
 
--- those that a step has taken for the caller
+-- those that a step has taken
 abbrev pub readBy : {C A : Type 0} → Bool → Entry C A → List ℕ
-readBy mine x = pick mine (unlessRefused (x .given) (dataIn (x .event)) []) []
+readBy mine x = unlessRefused (x .given) (dataIn mine (x .event)) []
 
 -- ---- the buffer
 
