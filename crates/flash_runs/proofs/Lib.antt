@@ -1,3 +1,7 @@
 pub mod General
 pub mod Filling
+pub mod Buffer
 pub mod Supplies
+pub mod Steps
+pub mod Runs
+pub mod Views
