@@ -5,3 +5,5 @@ pub mod Supplies
 pub mod Steps
 pub mod Runs
 pub mod Views
+pub mod Refusals
+pub mod LeftBehind
