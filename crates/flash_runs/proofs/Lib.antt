@@ -7,3 +7,8 @@ pub mod Runs
 pub mod Views
 pub mod Refusals
 pub mod LeftBehind
+pub mod SameAsRust
+pub mod Delivered
+pub mod Bills
+pub mod Lent
+pub mod Promises

@@ -1,4 +1,4 @@
--- What a driver must supply, and then all promises hold of it (proofs/Promises.antt, SameAsRust.antt, Lent.antt, Refusals.antt): that it
+-- What a driver must supply, and then all promises hold of it (`promises` of proofs/Promises.antt): that it
 -- is the general driver (`Is`), and what its calls' programs come to (`Supplies`).
 use Prim.Native.Nat.{ℕ}
 use mathlib.Core.Bool.{Bool, true, false}

@@ -1,4 +1,4 @@
 pub mod Driver
 pub mod Reading
-pub mod Promises
 pub mod SameAsRust
+pub mod Promises

@@ -14,6 +14,7 @@ use Rattle.spi_flash.specs.Seen.{Undisturbed, KeepsBuffer, EndsHigh}
 use Rattle.spi_flash.specs.declared.error.FlashError.{FlashError}
 use Rattle.flash_runs.specs.Driver.{Left, Driver, takesBuffer, takesAt, boundAt, actionsAt, endsAt, runAt, flashAfter}
 use Rattle.flash_runs.specs.Reading.{bytesRead, ChangesRead, HoldsRead}
+use Rattle.flash_runs.specs.SameAsRust.{Demand2}
 
 -- a call has begun when it gives out its first action
 abbrev pub GivesAction : {A : Type 0} → Given A → Type 0
@@ -97,3 +98,10 @@ module _ {F C S A : Type 0} (driver : Driver F C S A) where
     pub keeps : (flash : F) (call : C) (l : Lent) (es : List (Event C)) → takesBuffer (takesAt driver call l) ≡ false → KeepsBuffer (runAt driver flash call l es)
     -- "After a bus error select goes high and the call ends": every call ends with select high, whatever it was before
     pub endsHigh : (flash : F) (call : C) (l : Lent) (es : List (Event C)) → EndsHigh false (runAt driver flash call l es)
+
+  -- all of them
+  pub record Promises : Type 0 where
+    pub refusals : RefusalsKeep
+    pub demand1 : Demand1
+    pub demand2 : Demand2 driver
+    pub demand3 : Demand3
