@@ -35,7 +35,8 @@ use Rattle.nand_phases.specs.declared.phase.Within.{Within}
 use Rattle.nand_phases.specs.declared.setup.Setup.{Setup}
 use Rattle.nand_steps.specs.Register.{geometryFor}
 use Rattle.nand_rust.specs.Rust.{Nothing, MAX-VERIFY-PAGE-SIZE, id-of, wanted-of, uncorrectable, read-status, read-configuration, read-protection, wait-ready, write-enable, write-register, reset, jedec-id, read-cache, load-program-data, program-execute, read-page, erase-block, reading, is-bad-block, filling}
-use Rattle.nand_rust.specs.Program.{Left, leaving}
+use Rattle.flash_runs.specs.Driver.{leaving}
+use Rattle.nand_rust.specs.Program.{Left}
 use Rattle.nand_runs.proofs.Places.{Place}
 
 abbrev pub DONE : Setup → Prog Left

@@ -8,7 +8,8 @@ use Rattle.nand_phases.specs.declared.phase.Phase.{Phase}
 use Rattle.nand_phases.specs.declared.setup.Setup.{Setup}
 use Rattle.nand_steps.specs.declared.then.Then.{Then}
 use Rattle.nand_next.specs.Next.{nextOf}
-use Rattle.nand_rust.specs.Program.{Left, leaving}
+use Rattle.flash_runs.specs.Driver.{leaving}
+use Rattle.nand_rust.specs.Program.{Left}
 
 -- where a call stands, with what the driver holds
 pub record Place : Type 0 where
