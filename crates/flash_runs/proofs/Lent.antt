@@ -25,10 +25,10 @@ use Rattle.flash_runs.specs.Reading.{bytesRead, ChangesRead, HoldsRead}
 use Rattle.flash_runs.proofs.General.{Parts, Flash, Place, decideNext, settled, general}
 use Rattle.flash_runs.proofs.Filling.{Fills, first-filling}
 use Rattle.flash_runs.proofs.Buffer.{changes-read, holds-read}
-use Rattle.flash_runs.proofs.Supplies.{Is, Supplies}
+use Rattle.flash_runs.proofs.Supplies.{Is, LendsAs, Supplies}
 use Rattle.flash_runs.proofs.Runs.{viewed, same-run, same-state}
 use Rattle.flash_runs.proofs.Delivered.{counts}
-use Rattle.flash_runs.proofs.Views.{Opens, Nothing-begun, view, begun-opens, no-run, opens-steps, opens-run}
+use Rattle.flash_runs.proofs.Views.{true≢false, Opens, Nothing-begun, view, begun-opens, no-run, opens-steps, opens-run}
 
 module _ {F C S P A : Type 0} (driver : Driver F C S A) (parts : Parts S P A C) (Valid : Place S P → Type 0) (Built : P → Type 0) (meaning : Place S P → ℕ → Prog (Left S A))
     (supplies : Supplies driver parts Valid Built meaning) (is : Is driver parts) (flash : F) (c : C) (l : Lent) (es : List (Event C)) where
@@ -50,12 +50,29 @@ module _ {F C S P A : Type 0} (driver : Driver F C S A) (parts : Parts S P A C) 
   abbrev len : ℕ
   len = length (l .buffer)
 
+  -- what is known of a call's program, by what the call takes
+  abbrev Lends : Takes → Type 0
+  Lends takes = LendsAs driver parts Valid Built meaning (driver .setup flash) c len (length (l .given)) takes
+
+  lends : Opened → Lends (takesAt driver c l)
+  lends o = supplies .lent (driver .setup flash) c len (length (l .given)) (o .bounds)
+
+  filling : (takes : Takes) → takesBuffer takes ≡ true → Lends takes → (takes ≡ Takes.Buffer len) × Fills reads len 0 (programAt driver (driver .setup flash) c l)
+  filling Takes.Nothing own h = absurd (true≢false (sym own))
+  filling (Takes.Buffer n) own h = (ap Takes.Buffer (h .0), h .1)
+  filling (Takes.Data n) own h = absurd (true≢false (sym own))
+
+  unread : (takes : Takes) → takesBuffer takes ≡ false → Lends takes → Bounded bufferReads 0 (programAt driver (driver .setup flash) c l)
+  unread Takes.Nothing other h = h
+  unread (Takes.Buffer n) other h = absurd (true≢false other)
+  unread (Takes.Data n) other h = h
+
   -- ---- a call that reads into the buffer
 
   module _ (own : takesBuffer (takesAt driver c l) ≡ true) where
     module _ (o : Opened) where
       known : (takesAt driver c l ≡ Takes.Buffer len) × Fills reads len 0 (programAt driver (driver .setup flash) c l)
-      known = supplies .fills (driver .setup flash) c len (length (l .given)) (o .bounds) own
+      known = filling (takesAt driver c l) own (lends o)
 
       fills-first : Fills reads len 0 (ask (o .first) (meaning (o .at)))
       fills-first = subst (Fills reads len 0) (o .program) (known .1)
@@ -104,7 +121,7 @@ module _ {F C S P A : Type 0} (driver : Driver F C S A) (parts : Parts S P A C) 
       opened : Opened → KeepsBuffer (runAt driver flash c l es)
       opened o =
           let none : Bounded bufferReads 0 (ask (o .first) (meaning (o .at))) =
-          subst (Bounded bufferReads 0) (o .program) (supplies .unread (driver .setup flash) c len (length (l .given)) (o .bounds) h) in
+          subst (Bounded bufferReads 0) (o .program) (unread (takesAt driver c l) h (lends o)) in
           rw (opens-run driver parts Valid Built meaning supplies is flash o es)
           (refl, keeps-buffer Valid (decideNext parts) (takesAt driver c l) meaning (supplies .simulates) es (o .at) (firstOf (o .first)) (o .valid) none)
 

@@ -110,6 +110,12 @@ module _ {F C S P A : Type 0} (driver : Driver F C S A) (parts : Parts S P A C) 
     OpensAs releasing = Release
     OpensAs (working takes then) = Use takes then
 
+    -- a call that takes the buffer fills it place after place, and no other call reads into it
+    abbrev pub LendsAs : Takes → Type 0
+    LendsAs Takes.Nothing = Bounded bufferReads 0 program
+    LendsAs (Takes.Buffer n) = (n ≡ b) × Fills (driver .reads) b 0 program
+    LendsAs (Takes.Data n) = Bounded bufferReads 0 program
+
   -- what the call works on is within the bounds
   abbrev pub Bounds : S → C → ℕ → ℕ → Type 0
   Bounds s c b d = driver .inBounds (worksOn (driver .sort c b d) s) ≡ true
@@ -125,10 +131,7 @@ module _ {F C S P A : Type 0} (driver : Driver F C S A) (parts : Parts S P A C) 
         Reaches given delays (driver .delayBound s c b (length given)) (driver .program s c b (length given))
     pub endsWell : (s : S) (c : C) (b : ℕ) (given : List ℕ) → Bounds s c b (length given) → AllBytes given → Asks (driver .program s c b (length given)) →
         driver .canEnd s c b (length given) ≡ true → (n : ℕ) × (left : Left S A) × Ends given delays n left (driver .program s c b (length given))
-    -- a call that takes the buffer fills it place after place, and no other call reads into it
-    pub fills : (s : S) (c : C) (b d : ℕ) → Bounds s c b d → takesBuffer (takesOf (driver .sort c b d)) ≡ true →
-        (takesOf (driver .sort c b d) ≡ Takes.Buffer b) × Fills (driver .reads) b 0 (driver .program s c b d)
-    pub unread : (s : S) (c : C) (b d : ℕ) → Bounds s c b d → takesBuffer (takesOf (driver .sort c b d)) ≡ false → Bounded bufferReads 0 (driver .program s c b d)
+    pub lent : (s : S) (c : C) (b d : ℕ) → Bounds s c b d → LendsAs s c b d (takesOf (driver .sort c b d))
 
 -- where validity is a matter of what the driver holds, a call that keeps it stays valid
 pub onward-stays : {S P A : Type 0} (Valid : Place S P → Type 0) (Built : P → Type 0) (s : S) → ((phase : P) → Built phase → Valid (place s phase)) →
