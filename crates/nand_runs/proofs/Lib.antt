@@ -2,3 +2,4 @@ pub mod Places
 pub mod Meaning
 pub mod Keeps
 pub mod Simulation
+pub mod Openings
