@@ -2,4 +2,5 @@ pub mod Places
 pub mod Meaning
 pub mod Keeps
 pub mod Simulation
+pub mod Construction
 pub mod Openings
