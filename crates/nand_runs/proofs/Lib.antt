@@ -4,3 +4,4 @@ pub mod Keeps
 pub mod Simulation
 pub mod Construction
 pub mod Openings
+pub mod Opens

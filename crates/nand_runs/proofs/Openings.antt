@@ -16,7 +16,7 @@ use Rattle.flash_runs.specs.Driver.{leaving}
 use Rattle.flash_runs.proofs.General.{place}
 use Rattle.spi_nand.specs.Command.{resetCommand}
 use Rattle.spi_nand.specs.Config.{pageCountOf, inBounds, firstPageOf}
-use Rattle.spi_nand.specs.Opcode.{REG-CONFIGURATION, REG-BLOCK-PROTECTION}
+use Rattle.spi_nand.specs.Opcode.{REG-STATUS, REG-CONFIGURATION, REG-BLOCK-PROTECTION}
 use Rattle.spi_nand.specs.Status.{configurationOf, configurationByte, sameConfiguration, protectionOf, isUnlocked}
 use Rattle.spi_nand.specs.declared.opcode.Operation.{Operation}
 use Rattle.spi_nand.specs.declared.status.Configuration.{Configuration}
@@ -35,7 +35,7 @@ use Rattle.nand_phases.specs.declared.phase.ResetFor.{ResetFor}
 use Rattle.nand_phases.specs.declared.phase.Task.{Task}
 use Rattle.nand_phases.specs.declared.phase.Within.{Within}
 use Rattle.nand_phases.specs.declared.setup.Setup.{Setup}
-use Rattle.nand_steps.specs.Go.{ask as askThen, send, enable}
+use Rattle.nand_steps.specs.Go.{ask as askThen, askId, send, enable}
 use Rattle.nand_steps.specs.Cache.{within, readCacheThen, loadProgramThen}
 use Rattle.nand_steps.specs.Page.{pageReadThen, isBadThen, programThen, readPageThen, writePageThen}
 use Rattle.nand_steps.specs.Read.{readThen}
@@ -50,29 +50,45 @@ use Rattle.nand_runs.proofs.Simulation.{bind-assoc, then-assoc, reads-c
 -- ---- registers and ids
 
 module _ (s : Setup) where
-  disables : disable-quad >> DONE s ≡ tree meaning (decide (askThen s REG-CONFIGURATION Asked.DisableQuad))
+  pub disables : disable-quad >> DONE s ≡ tree meaning (decide (askThen s REG-CONFIGURATION Asked.DisableQuad))
   unfolding disable-quad read-configuration disable-on check-disabled answered meaningAt _>>=_ _>>_
   disables = refl
 
-  writes-register : (register value : ℕ) → write-register register value >> DONE s ≡ tree meaning (decide (enable s (EnableFor.Register register value RegisterFor.Call)))
+  pub tells-status : read-status >>= (λ status. ret (leaving s (Answer.Status status))) ≡ tree meaning (decide (askThen s REG-STATUS Asked.Status))
+  unfolding read-status answered meaningAt _>>=_ _>>_
+  tells-status = refl
+
+  pub tells-configuration : read-configuration >>= (λ c. ret (leaving s (Answer.Configuration c))) ≡ tree meaning (decide (askThen s REG-CONFIGURATION Asked.Configuration))
+  unfolding read-configuration answered meaningAt _>>=_ _>>_
+  tells-configuration = refl
+
+  pub tells-protection : read-protection >>= (λ p. ret (leaving s (Answer.Protection p))) ≡ tree meaning (decide (askThen s REG-BLOCK-PROTECTION Asked.Protection))
+  unfolding read-protection answered meaningAt _>>=_ _>>_
+  tells-protection = refl
+
+  pub tells-id : jedec-id >>= (λ id. ret (leaving s (Answer.Id id))) ≡ tree meaning (decide (askId s Within.Call))
+  unfolding jedec-id answered identify meaningAt _>>=_ _>>_
+  tells-id = refl
+
+  pub writes-register : (register value : ℕ) → write-register register value >> DONE s ≡ tree meaning (decide (enable s (EnableFor.Register register value RegisterFor.Call)))
   unfolding written
   writes-register register value = registers s register value RegisterFor.Call
 
-  enables-write : write-enable >> DONE s ≡ tree meaning (decide (enable s EnableFor.Call))
+  pub enables-write : write-enable >> DONE s ≡ tree meaning (decide (enable s EnableFor.Call))
   unfolding enabled
   enables-write = enables s EnableFor.Call
 
-  resets : reset >> DONE s ≡ tree meaning (decide (send s resetCommand (Task.Reset ResetFor.Reset)))
+  pub resets : reset >> DONE s ≡ tree meaning (decide (send s resetCommand (Task.Reset ResetFor.Reset)))
   unfolding reset resumed reset-done taskOperation
   resets = sends s resetCommand (Task.Reset ResetFor.Reset)
 
-  identifies : reset-and-identify >>= (λ id. ret (leaving s (Answer.Id id))) ≡ tree meaning (decide (send s resetCommand (Task.Reset (ResetFor.Identify Within.Call))))
+  pub identifies : reset-and-identify >>= (λ id. ret (leaving s (Answer.Id id))) ≡ tree meaning (decide (send s resetCommand (Task.Reset (ResetFor.Identify Within.Call))))
   unfolding reset-and-identify reset resumed reset-done identify taskOperation _>>_
   identifies =
       bind-assoc reset (λ u. jedec-id) (λ id. ret (leaving s (Answer.Id id)))
       ∙ sends s resetCommand (Task.Reset (ResetFor.Identify Within.Call))
 
-  configures : ensure-configuration (s .config) >>= (λ before. ret (leaving s (Answer.Configuration before)))
+  pub configures : ensure-configuration (s .config) >>= (λ before. ret (leaving s (Answer.Configuration before)))
       ≡ tree meaning (decide (askThen s REG-CONFIGURATION (Asked.Configure Within.Call)))
   unfolding ensure-configuration read-configuration answered configure-on configured check-configured meaningAt _>>=_ _>>_
   configures =
@@ -86,7 +102,7 @@ module _ (s : Setup) where
           >> (read-configuration >>= (λ after. refuse (not (sameConfiguration after (wanted-of (s .config) before))) FlashError.NotSupported)))
           else ret tt
 
-  unprotects : unprotect >>= (λ before. ret (leaving s (Answer.Protection before)))
+  pub unprotects : unprotect >>= (λ before. ret (leaving s (Answer.Protection before)))
       ≡ tree meaning (decide (askThen s REG-BLOCK-PROTECTION (Asked.Unprotect Within.Call)))
   unfolding unprotect read-protection answered unprotect-on unprotected meaningAt _>>=_ _>>_
   unprotects =
@@ -98,23 +114,23 @@ module _ (s : Setup) where
 
   -- ---- pages
 
-  loads-page : (page : ℕ) → page-read s page >> DONE s ≡ tree meaning (decide (pageReadThen s page LoadFor.PageRead))
+  pub loads-page : (page : ℕ) → page-read s page >> DONE s ≡ tree meaning (decide (pageReadThen s page LoadFor.PageRead))
   unfolding accepted loaded
   loads-page page = page-reads s page LoadFor.PageRead refl
 
-  reads-from-cache : (column n : ℕ) → read-cache s column n (Sink.Buffer 0) >> DONE s ≡ tree meaning (decide (readCacheThen s column n (Sink.Buffer 0) Phase.ReadingCache))
+  pub reads-from-cache : (column n : ℕ) → read-cache s column n (Sink.Buffer 0) >> DONE s ≡ tree meaning (decide (readCacheThen s column n (Sink.Buffer 0) Phase.ReadingCache))
   unfolding meaningAt _>>_
   reads-from-cache column n = reads-cache s column n (Sink.Buffer 0) Phase.ReadingCache (λ v. DONE s) refl
 
-  loads-data : (column n : ℕ) → load-program-data s column n (Payload.Data 0 n) >> DONE s ≡ tree meaning (decide (loadProgramThen s column (Payload.Data 0 n) Phase.LoadingData))
+  pub loads-data : (column n : ℕ) → load-program-data s column n (Payload.Data 0 n) >> DONE s ≡ tree meaning (decide (loadProgramThen s column (Payload.Data 0 n) Phase.LoadingData))
   unfolding loadProgramThen meaningAt
   loads-data column n = loads-cache s column n (Payload.Data 0 n) Phase.LoadingData (DONE s) (λ v. refl)
 
-  executes : (page : ℕ) → program-execute s page >> DONE s ≡ tree meaning (decide (programThen s page ProgramFor.Call))
+  pub executes : (page : ℕ) → program-execute s page >> DONE s ≡ tree meaning (decide (programThen s page ProgramFor.Call))
   unfolding after-program
   executes page = programs s page ProgramFor.Call
 
-  reads-page : (page n : ℕ) → read-page s page n (Sink.Buffer 0) >> DONE s ≡ tree meaning (decide (readPageThen s page n))
+  pub reads-page : (page n : ℕ) → read-page s page n (Sink.Buffer 0) >> DONE s ≡ tree meaning (decide (readPageThen s page n))
   unfolding read-page readPageThen refuse accepted loaded _>>=_ _>>_
   reads-page page n =
       by-cases (eqb n (s .geometry .«page_size»))
@@ -147,7 +163,7 @@ module _ (s : Setup) where
       (then-assoc (program-execute s page) (back >>= judge) (DONE s) ∙ ap (λ p. program-execute s page >> p) (bind-assoc back judge (λ u. DONE s))))
       ∙ enables s (EnableFor.WritePage page)
 
-  writes-page : (page n : ℕ) → write-page s page n >> DONE s ≡ tree meaning (decide (writePageThen s page n))
+  pub writes-page : (page n : ℕ) → write-page s page n >> DONE s ≡ tree meaning (decide (writePageThen s page n))
   unfolding write-page writePageThen refuse _>>=_ _>>_
   writes-page page n =
       by-cases (eqb n (s .geometry .«page_size»))
@@ -158,11 +174,11 @@ module _ (s : Setup) where
 
   -- ---- blocks
 
-  erases-block : (block : ℕ) → erase-block s block >> DONE s ≡ tree meaning (decide (eraseThen s block EraseFor.Call))
+  pub erases-block : (block : ℕ) → erase-block s block >> DONE s ≡ tree meaning (decide (eraseThen s block EraseFor.Call))
   unfolding after-erase
   erases-block block = erases s block EraseFor.Call
 
-  tells-bad : (block : ℕ) → is-bad-block s block >>= (λ marked. ret (leaving s (Answer.Flag marked))) ≡ tree meaning (decide (isBadThen s block MarkerFor.Call))
+  pub tells-bad : (block : ℕ) → is-bad-block s block >>= (λ marked. ret (leaving s (Answer.Flag marked))) ≡ tree meaning (decide (isBadThen s block MarkerFor.Call))
   unfolding marker-read
   tells-bad block = looks-bad s block MarkerFor.Call
 
@@ -209,7 +225,7 @@ module _ (s : Setup) where
   marks-checked block true = refl
   marks-checked block false = marks-after block
 
-  marks : (block : ℕ) → mark-bad-block s block >> DONE s ≡ tree meaning (decide (isBadThen s block (MarkerFor.Check block)))
+  pub marks : (block : ℕ) → mark-bad-block s block >> DONE s ≡ tree meaning (decide (isBadThen s block (MarkerFor.Check block)))
   unfolding mark-bad-block _>>_
   marks block =
       let after : Bool → Prog Nothing = λ marked. if marked then ret tt else marked-after block in
@@ -221,6 +237,6 @@ module _ (s : Setup) where
 
   -- ---- read
 
-  reads : inBounds (s .geometry) ≡ true → (offset n : ℕ) → read s offset n >> DONE s ≡ tree meaning (decide (readThen s offset n))
+  pub reads : inBounds (s .geometry) ≡ true → (offset n : ℕ) → read s offset n >> DONE s ≡ tree meaning (decide (readThen s offset n))
   unfolding read readThen refuse read-on _>>=_ _>>_
   reads valid offset n = by-cases (inRange (s .geometry) offset n) (λ h. rw h (reads-on s valid offset n 0)) (λ h. rw h)
