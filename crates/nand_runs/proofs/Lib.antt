@@ -5,3 +5,4 @@ pub mod Simulation
 pub mod Construction
 pub mod Openings
 pub mod Opens
+pub mod Is
