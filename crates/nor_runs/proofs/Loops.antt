@@ -16,18 +16,12 @@ use Rattle.nor_runs.specs.Rust.{Nothing, read-loop, reading, page-progra
 use Rattle.spi_nor.specs.declared.config.NorDeviceInfo.{NorDeviceInfo}
 use Rattle.nor_phases.specs.declared.phase.EraseKind.{EraseKind}
 use Rattle.nor_phases.specs.declared.setup.Setup.{Setup}
+use Rattle.spi_flash.proofs.Pieces.{range-told, piece-some}
 use Rattle.spi_flash.proofs.Loops.{Counts, without-fuel}
 use Rattle.spi_nor.proofs.DeviceBounds.{deviceBounds}
 use Rattle.nor_phases.proofs.Pieces.{chunk-left, page-whole}
 
 -- ---- a turn goes on
-
-piece-some : (most len done : ℕ) → 1 ≤ most → done < len → 1 ≤ pick (ltb done len) (pick (leb (len - done) most) (len - done) most) 0
-piece-some most len done m h = rw (lt-ltb done len h) (at (leb (len - done) most))
-  where
-    at : (b : Bool) → 1 ≤ pick b (len - done) most
-    at true = omega arith
-    at false = m
 
 pub chunk-some : (len done : ℕ) → done < len → 1 ≤ chunkOf len done
 unfolding chunkOf
@@ -72,11 +66,7 @@ page-turns device len some = record { none = λ done t. omega arith; fewer = λ 
 -- a unit in range ends within the part
 pub in-range : (capacity offset n : ℕ) → inRange capacity offset n ≡ true → offset + n ≤ capacity
 unfolding inRange
-in-range capacity offset n h = at (leb offset capacity) refl h
-  where
-    at : (b : Bool) → leb offset capacity ≡ b → pick b (leb n (capacity - offset)) false ≡ true → offset + n ≤ capacity
-    at true e l = omega (arith, leb-true offset capacity e, leb-true n (capacity - offset) l)
-    at false e l = let z : _≡_ {A = ℕ} 0 1 = cc in omega arith
+in-range capacity offset n h = range-told capacity offset n h
 
 pub unit-some : (device : NorDeviceInfo) → inBoundsOf device ≡ true → (kind : EraseKind) → 1 ≤ unitSize device kind
 unit-some device h EraseKind.Sector = deviceBounds .accepted device h .sector

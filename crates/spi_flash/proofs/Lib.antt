@@ -1,5 +1,6 @@
 pub mod Table
 pub mod Bits
+pub mod Pieces
 pub mod Laws
 pub mod Giving
 pub mod Replies
