@@ -2,7 +2,7 @@
 use Prim.Native.Nat.{ℕ, _+_, _≤_}
 use native.Mathlib.Omega.{arith}
 use native.Mathlib.Nat.{add-assoc, zero-add}
-use mathlib.Core.Path.{_≡_, refl, ap, sym, subst, _∙_}
+use mathlib.Core.Path.{_≡_, refl, ap, sym, subst, _∙_, fun-ext}
 use mathlib.Core.List.{List, [], _∷_, _++_}
 use mathlib.Core.Bool.{Bool, true, false}
 use Rattle.qspi.specs.declared.transfer.Transfer.{Transfer}
@@ -10,6 +10,14 @@ use Rattle.frames.specs.declared.frame.Outcome.{Outcome}
 use Rattle.spi_flash.specs.declared.error.FlashError.{FlashError}
 use Rattle.spi_flash.specs.Prog.{Prog, ret, fail, ask, _>>=_, _>>_, if_then_else_, refuse, transfer}
 use Rattle.spi_flash.specs.Path.{Past, back, End, going, done, failed, spent, asked, Every, Some, Well, IfWell, Fits, Bounded, Reaches, Ends, AtLeast, Never}
+
+-- ---- programs
+
+pub then-assoc : {A B C : Type 0} (p : Prog A) (q : Prog B) (r : Prog C) → (p >> q >> r) ≡ (p >> (q >> r))
+unfolding _>>_ _>>=_
+then-assoc (ret a) q r = refl
+then-assoc (fail e) q r = refl
+then-assoc (ask t k) q r = ap (ask t) (fun-ext (λ v. then-assoc (k v) q r))
 
 -- ---- every path
 
@@ -263,6 +271,19 @@ never-left {p = p} f n = record { never = if-well-bind p f (λ a xs. ⊥) (λ a 
 
 pub never-right : {A B : Type 0} (p : Prog A) {f : A → Prog B} → ((a : A) → Never (f a)) → Never (p >>= f)
 never-right p {f} n = record { never = if-well-bind p f (λ a xs. Unit {0}) (λ a xs. ⊥) (if-well-all p (λ a xs. Unit {0}) (λ a xs. tt)) (λ xs a l. n a .never) }
+
+pub never-then : {A B : Type 0} (p : Prog A) {q : Prog B} → Never q → Never (p >> q)
+unfolding _>>_
+never-then p n = never-right p (λ a. n)
+
+-- a test that turns the call away
+pub never-refused : {A : Type 0} (p : Prog A) (b : Bool) (e : FlashError) → b ≡ true → Never (refuse b e >> p)
+unfolding refuse _>>_ _>>=_
+never-refused p b e h = rw h never-fail
+
+pub reaches-refused : {A : Type 0} {g : List ℕ} {w : Transfer → ℕ} (p : Prog A) (b : Bool) (e : FlashError) → b ≡ true → Reaches g w 0 (refuse b e >> p)
+unfolding refuse _>>_ _>>=_
+reaches-refused p b e h = rw h reaches-fail
 
 some-never : {A B : Type 0} (g : List ℕ) (p : Prog A) (f : A → Prog B) (N P : List Past → End A → Type 0) (Q : List Past → End B → Type 0) →
     ((xs : List Past) (a : A) → N xs (done a) → ⊥) →
