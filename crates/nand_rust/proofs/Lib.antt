@@ -1,0 +1,6 @@
+pub mod Waits
+pub mod Pages
+pub mod ReadLoop
+pub mod FillLoop
+pub mod Weights
+pub mod Bounds
