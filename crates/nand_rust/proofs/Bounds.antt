@@ -39,10 +39,14 @@ delay-figures = record { sent = λ c. omega arith; number = λ c n. omega arith;
     loaded (QuadSetting.Quad q) column payload = omega arith
 
 module _ (flash : Setup) (bounds : inBounds (flash .geometry) ≡ true) where
-  -- without spare bytes is_bad_block comes to no answer
+  -- without spare bytes there is no marker to read, so is_bad_block comes to no answer
+  pub never-marker : flash .geometry .«oob_size» ≡ 0 → Never (read-cache flash (flash .geometry .«page_size») 1 Sink.Number)
+  unfolding read-cache
+  never-marker z = never-refused _ _ _ (ap not (no-marker (flash .geometry) bounds z))
+
   pub never-is-bad : (block : ℕ) → flash .geometry .«oob_size» ≡ 0 → Never (is-bad-block flash block)
-  unfolding is-bad-block read-cache
-  never-is-bad block z = never-then _ (never-then _ (never-left _ (never-refused _ _ _ (ap not (no-marker (flash .geometry) bounds z)))))
+  unfolding is-bad-block
+  never-is-bad block z = never-then _ (never-then _ (never-left _ (never-marker z)))
 
   bounded-marking : (block : ℕ) → Bounded delays (markBound (flash .geometry)) (mark-bad-block flash block)
   unfolding mark-bad-block

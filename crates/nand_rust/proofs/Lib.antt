@@ -4,3 +4,5 @@ pub mod ReadLoop
 pub mod FillLoop
 pub mod Weights
 pub mod Bounds
+pub mod Reaches
+pub mod ProgramBounds

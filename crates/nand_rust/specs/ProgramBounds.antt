@@ -1,7 +1,7 @@
 -- What the program of each call comes to: its bill is an upper bound and is reached, its actions are bounded, and it can end well
 -- (document 01, "Bills").
 use Prim.Native.Nat.{ℕ}
-use mathlib.Core.Bool.{true, false}
+use mathlib.Core.Bool.{Bool, true, not}
 use mathlib.Core.Path.{_≡_}
 use mathlib.Core.List.{List}
 use lib.Dec.{ltb, eqb}
@@ -13,7 +13,7 @@ use Rattle.nand_phases.specs.Transfer.{inCache, inRange}
 use Rattle.nand_phases.specs.declared.call.Call.{Call}
 use Rattle.nand_phases.specs.declared.setup.Setup.{Setup}
 use Rattle.nand_rust.specs.Bound.{delayBound, actionBound}
-use Rattle.nand_rust.specs.Program.{Left, largePage, programOf}
+use Rattle.nand_rust.specs.Program.{Left, pageTaken, programOf}
 
 -- a page, and a block, of the device
 abbrev pub PageFits : Setup → ℕ → Type 0
@@ -57,34 +57,34 @@ Begins flash (Call.MarkBadBlock block) b d = BlockFits flash block
 
 -- a construction whose page is too large is refused once the id is read, and without spare bytes there is no marker: every other call
 -- that begins can end well
-abbrev pub CanEnd : Setup → Call → Type 0
-CanEnd flash Call.New = Unit {0}
-CanEnd flash (Call.WithConfig config) = largePage (Call.WithConfig config) ≡ false
-CanEnd flash Call.Info = Unit {0}
-CanEnd flash Call.Config = Unit {0}
-CanEnd flash Call.Geometry = Unit {0}
-CanEnd flash Call.Free = Unit {0}
-CanEnd flash Call.DisableQuad = Unit {0}
-CanEnd flash (Call.WriteRegister register value) = Unit {0}
-CanEnd flash Call.WriteEnable = Unit {0}
-CanEnd flash Call.ReadStatus = Unit {0}
-CanEnd flash Call.ReadConfiguration = Unit {0}
-CanEnd flash Call.ReadProtection = Unit {0}
-CanEnd flash Call.Reset = Unit {0}
-CanEnd flash Call.JedecId = Unit {0}
-CanEnd flash Call.ResetAndIdentify = Unit {0}
-CanEnd flash Call.EnsureConfiguration = Unit {0}
-CanEnd flash Call.Unprotect = Unit {0}
-CanEnd flash (Call.PageRead page) = Unit {0}
-CanEnd flash (Call.ReadCache column) = Unit {0}
-CanEnd flash (Call.LoadProgramData column) = Unit {0}
-CanEnd flash (Call.ProgramExecute page) = Unit {0}
-CanEnd flash (Call.ReadPage page) = Unit {0}
-CanEnd flash (Call.WritePage page) = Unit {0}
-CanEnd flash (Call.EraseBlock block) = Unit {0}
-CanEnd flash (Call.Read offset) = Unit {0}
-CanEnd flash (Call.IsBadBlock block) = eqb (flash .geometry .«oob_size») 0 ≡ false
-CanEnd flash (Call.MarkBadBlock block) = eqb (flash .geometry .«oob_size») 0 ≡ false
+abbrev pub canEnd : Setup → Call → Bool
+canEnd flash Call.New = true
+canEnd flash (Call.WithConfig config) = pageTaken (config .geometry)
+canEnd flash Call.Info = true
+canEnd flash Call.Config = true
+canEnd flash Call.Geometry = true
+canEnd flash Call.Free = true
+canEnd flash Call.DisableQuad = true
+canEnd flash (Call.WriteRegister register value) = true
+canEnd flash Call.WriteEnable = true
+canEnd flash Call.ReadStatus = true
+canEnd flash Call.ReadConfiguration = true
+canEnd flash Call.ReadProtection = true
+canEnd flash Call.Reset = true
+canEnd flash Call.JedecId = true
+canEnd flash Call.ResetAndIdentify = true
+canEnd flash Call.EnsureConfiguration = true
+canEnd flash Call.Unprotect = true
+canEnd flash (Call.PageRead page) = true
+canEnd flash (Call.ReadCache column) = true
+canEnd flash (Call.LoadProgramData column) = true
+canEnd flash (Call.ProgramExecute page) = true
+canEnd flash (Call.ReadPage page) = true
+canEnd flash (Call.WritePage page) = true
+canEnd flash (Call.EraseBlock block) = true
+canEnd flash (Call.Read offset) = true
+canEnd flash (Call.IsBadBlock block) = not (eqb (flash .geometry .«oob_size») 0)
+canEnd flash (Call.MarkBadBlock block) = not (eqb (flash .geometry .«oob_size») 0)
 
 -- of a driver whose geometry is within the bounds, whatever the replies; and on the caller's data, with replies that fit
 pub record ProgramBounds : Type 0 where
@@ -98,4 +98,4 @@ pub record ProgramBounds : Type 0 where
       Bounded actions (actionBound flash call b) (programOf flash call b d)
   -- some path ends well
   pub endsWell : (flash : Setup) → inBounds (flash .geometry) ≡ true → (call : Call) (b : ℕ) (given : List ℕ) → AllBytes given →
-      Begins flash call b (length given) → CanEnd flash call → (n : ℕ) × (left : Left) × Ends given delays n left (programOf flash call b (length given))
+      Begins flash call b (length given) → canEnd flash call ≡ true → (n : ℕ) × (left : Left) × Ends given delays n left (programOf flash call b (length given))
