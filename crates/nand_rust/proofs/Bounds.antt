@@ -1,14 +1,13 @@
 -- The delays and the actions of the Rust's programs stay within their bounds.
-use Prim.Native.Nat.{ℕ, _+_, _≤_}
+use Prim.Native.Nat.{ℕ, _≤_}
 use native.Mathlib.Omega.{arith}
-use mathlib.Core.Bool.{true, false, not}
+use mathlib.Core.Bool.{true, not}
 use mathlib.Core.Path.{_≡_, ap}
 use lib.Dec.{eqb}
 use borrow.Author.Tests.{eqb-true}
 use Rattle.qspi.proofs.Cases.{by-cases}
 use Rattle.qspi.specs.declared.transfer.Payload.{Payload}
 use Rattle.qspi.specs.declared.transfer.Sink.{Sink}
-use Rattle.spi_flash.specs.Prog.{_>>=_, _>>_, refuse}
 use Rattle.spi_flash.specs.Path.{delays, actions, Bounded, Never}
 use Rattle.spi_flash.proofs.Laws.{bounded-more, bounded-ret, bounded-guard, bounded-never, never-left, never-then, never-refused, answered, ended}
 use Rattle.spi_nand.specs.Config.{singleConfig, inBounds}

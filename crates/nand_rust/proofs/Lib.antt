@@ -4,5 +4,6 @@ pub mod ReadLoop
 pub mod FillLoop
 pub mod Weights
 pub mod Bounds
+pub mod Ends
 pub mod Reaches
 pub mod ProgramBounds

@@ -1,11 +1,11 @@
 -- Pages, columns and pieces of a geometry within the bounds, and the pages that a read has left to touch.
-use Prim.Native.Nat.{ℕ, zero, suc, _+_, _-_, _*_, _/_, _%_, _≤_, _<_}
+use Prim.Native.Nat.{ℕ, suc, _+_, _-_, _*_, _/_, _%_, _≤_, _<_}
 use native.Mathlib.Omega.{arith}
 use native.Mathlib.Nat.{add-zero, sub-zero, div-add-mod', mod-lt, mod-eq-of-lt, mul-assoc, mul-le-mul, mul-le-mul-right, mul-add-div-right, mul-div-cancel, div-eq-of-lt, div-lt-iff-lt-mul, le-div-iff-mul-le}
 use mathlib.Core.Bool.{true, false}
-use mathlib.Core.Path.{_≡_, refl, ap, _∙_}
-use lib.Dec.{leb, ltb, eqb}
-use borrow.Author.Tests.{lt-ltb, le-leb, lt-leb, ne-eqb, eqb-true, eqb-false}
+use mathlib.Core.Path.{_≡_, ap, _∙_}
+use lib.Dec.{ltb}
+use borrow.Author.Tests.{lt-ltb, le-leb, lt-leb, ne-eqb}
 use Rattle.qspi.proofs.Cases.{by-order}
 use Rattle.spi_flash.proofs.Loops.{Counts}
 use Rattle.spi_flash.proofs.Pieces as pieces

@@ -2,7 +2,7 @@
 use Prim.Native.Nat.{ℕ, _+_}
 use native.Mathlib.Omega.{arith}
 use mathlib.Core.Bool.{true}
-use mathlib.Core.Path.{_≡_, refl, sym, ap}
+use mathlib.Core.Path.{_≡_, refl}
 use lib.Dec.{ltb}
 use Rattle.qspi.specs.declared.transfer.Sink.{Sink}
 use Rattle.spi_flash.specs.Prog.{Prog, ret, _>>_, if_then_else_}

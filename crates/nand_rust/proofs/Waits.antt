@@ -1,5 +1,5 @@
 -- The sums of a wait: its delays, its actions, and replies that bring it to the largest sum.
-use Prim.Native.Nat.{ℕ, _+_, _*_}
+use Prim.Native.Nat.{ℕ}
 use native.Mathlib.Omega.{arith}
 use mathlib.Core.List.{List}
 use Rattle.spi_flash.specs.Path.{delays, actions, Bounded, Ends}

@@ -1,14 +1,14 @@
 -- Upper bounds on the Rust's programs, by any weight of the transfers.
-use Prim.Native.Nat.{ℕ, _+_, _-_, _*_, _≤_}
+use Prim.Native.Nat.{ℕ, _+_, _*_, _≤_}
 use native.Mathlib.Omega.{arith}
-use mathlib.Core.Bool.{Bool, true, not}
-use mathlib.Core.Path.{_≡_, refl}
+use mathlib.Core.Bool.{true, not}
+use mathlib.Core.Path.{_≡_}
 use borrow.Author.Tests.{not-false}
 use Rattle.qspi.specs.declared.command.Command.{Command}
 use Rattle.qspi.specs.declared.transfer.Payload.{Payload}
 use Rattle.qspi.specs.declared.transfer.Sink.{Sink}
 use Rattle.qspi.specs.declared.transfer.Transfer.{Transfer}
-use Rattle.spi_flash.specs.Prog.{Prog, ret, _>>=_, _>>_, if_then_else_, refuse, transfer}
+use Rattle.spi_flash.specs.Prog.{if_then_else_, transfer}
 use Rattle.spi_flash.specs.Path.{Bounded}
 use Rattle.spi_flash.proofs.Laws.{bounded-more, bounded-ret, bounded-fail, bounded-bind, bounded-then, bounded-refuse, bounded-if, bounded-transfer, bounded-guard, answered, ended}
 use Rattle.spi_flash.proofs.Loops.{bounded-loop}
@@ -17,7 +17,7 @@ use Rattle.spi_nand.specs.Status.{quadEnabledOf, sameConfiguration, isUnlocked}
 use Rattle.spi_nand.specs.declared.config.QuadSetting.{QuadSetting}
 use Rattle.spi_nand.specs.declared.config.SpiNandConfig.{SpiNandConfig}
 use Rattle.spi_nand.specs.declared.opcode.Operation.{Operation}
-use Rattle.nand_phases.specs.Transfer.{cacheReadAt, cacheReadTransfer, cacheLoadAt, cacheLoadTransfer, inRange}
+use Rattle.nand_phases.specs.Transfer.{cacheReadAt, cacheReadTransfer, cacheLoadAt, cacheLoadTransfer}
 use Rattle.nand_phases.specs.declared.setup.Setup.{Setup}
 use Rattle.nand_rust.specs.Bound.{pagesTouched, fillers}
 use Rattle.nand_rust.specs.Program.{refused-page}
