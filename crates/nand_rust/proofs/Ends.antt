@@ -30,8 +30,8 @@ use Rattle.nand_rust.specs.Rust.{MAX-VERIFY-PAGE-SIZE, read-register, re
 use Rattle.nand_rust.specs.Program.{pageTaken, refused-page}
 use Rattle.nand_rust.specs.Bound.{pagesTouched, fillers}
 use Rattle.nand_rust.specs.ProgramBounds.{PageFits, BlockFits, WholePage}
-use Rattle.nand_rust.proofs.Pages.{in-cache, no-marker, page-fits, first-page-fits, in-range, place-of, chunk-within, page-turns, pages-first, pages-done, filler-within, filler-turns, fillers-enough}
-use Rattle.nand_rust.proofs.ReadLoop.{read-piece, reading-loop}
+use Rattle.nand_rust.proofs.Pages.{some-page, in-cache, no-marker, page-fits, first-page-fits, in-range, place-of, chunk-within, page-turns, pages-first, pages-done, filler-within, filler-turns, fillers-enough}
+use Rattle.nand_rust.proofs.ReadLoop.{read-piece, reading-pieces}
 use Rattle.nand_rust.proofs.FillLoop.{filling-loop}
 use Rattle.nand_rust.proofs.Waits.{wait-ends}
 use Rattle.nand_rust.proofs.Bounds.{never-marker, never-is-bad}
@@ -194,7 +194,7 @@ module _ (given : List ℕ) where
         abbrev within : offset + len ≤ flash .geometry .«pages_per_block» * flash .geometry .«block_count» * size
         within = in-range (flash .geometry) bounds offset len r
 
-        ends-piece : (done : ℕ) → done < len → Ends given delays 400000 0 (read-piece flash offset len done)
+        ends-piece : (done : ℕ) → done < len → Ends given delays 400000 0 (read-piece flash (some-page (flash .geometry) bounds) offset len done)
         ends-piece done below =
             let there = place-of (flash .geometry) bounds offset len within done (omega arith) in
             let piece = chunk-within (flash .geometry) bounds offset len within done below in
@@ -205,7 +205,7 @@ module _ (given : List ℕ) where
         unfolding read
         ends-read =
             ends-guard _ _ (ap not r)
-            (ends-loop len _ _ (reading flash offset len) (reading-loop flash offset len bounds) (page-turns (flash .geometry) bounds offset len within)
+            (ends-loop len _ _ (reading flash offset len) (reading-pieces flash (some-page (flash .geometry) bounds) offset len) (page-turns (flash .geometry) bounds offset len within)
             (λ k done stop t. let z = pages-done (flash .geometry) bounds offset len within done stop in omega arith)
             (λ k done below t. (0, ends-piece done below))
             (pagesTouched (flash .geometry) offset len) 0 (pages-first (flash .geometry) bounds offset len within))
@@ -213,9 +213,6 @@ module _ (given : List ℕ) where
       -- ---- bad blocks
 
       module _ (block : ℕ) (fits : BlockFits flash block) where
-        abbrev first-page : ℕ
-        first-page = block * flash .geometry .«pages_per_block»
-
         module _ (spare : 1 ≤ flash .geometry .«oob_size») where
           pub ends-is-bad : (marker : ℕ) → marker < 256 → Ends given delays 400000 (not (eqb (marker % 256) GOOD)) (is-bad-block flash block)
           unfolding is-bad-block
@@ -227,7 +224,7 @@ module _ (given : List ℕ) where
           ends-filling : Ends given delays 0 tt (filling flash 0)
           ends-filling =
               ends-eq (omega arith)
-              (ends-loop size _ _ (filling flash) (filling-loop flash bounds) (filler-turns (flash .geometry) bounds)
+              (ends-loop size _ _ (filling flash) (filling-loop flash) (filler-turns (flash .geometry) bounds)
               (λ k column stop t. omega arith)
               (λ k column below t. (tt, ends-load-data column _ _ (in-cache (flash .geometry) bounds column _ (omega (arith, filler-within (flash .geometry) bounds column below)))))
               (fillers (flash .geometry)) 0 (fillers-enough (flash .geometry) bounds))
@@ -242,7 +239,7 @@ module _ (given : List ℕ) where
               (ends-then ends-enable
               (ends-then ends-filling
               (ends-then (ends-load-data size 1 _ (in-cache (flash .geometry) bounds size 1 (omega arith)))
-              (ends-then (ends-execute first-page (first-page-fits (flash .geometry) bounds block (ltb-true block (flash .geometry .«block_count») fits)))
+              (ends-then (ends-execute _ (first-page-fits (flash .geometry) bounds block (ltb-true block (flash .geometry .«block_count») fits)))
               (ends-bind _ (ends-is-bad 0 (lit< tt)) (ends-refuse _ _ refl))))))))
 
         -- without spare bytes the page is loaded, and there is no marker to read

@@ -1,7 +1,7 @@
 pub mod Waits
-pub mod Pages
 pub mod ReadLoop
 pub mod FillLoop
+pub mod Pages
 pub mod Weights
 pub mod Bounds
 pub mod Ends

@@ -9,11 +9,12 @@ use borrow.Author.Tests.{lt-ltb, le-leb, lt-leb, ne-eqb}
 use Rattle.qspi.proofs.Cases.{by-order}
 use Rattle.spi_flash.proofs.Loops.{Counts}
 use Rattle.spi_flash.proofs.Pieces as pieces
-use Rattle.spi_nand.specs.Config.{pageCountOf, capacityOf, cacheSizeOf, inBounds}
+use Rattle.spi_nand.specs.Config.{pageCountOf, firstPageOf, capacityOf, cacheSizeOf, inBounds}
 use Rattle.spi_nand.specs.declared.config.NandGeometry.{NandGeometry}
 use Rattle.spi_nand.proofs.Geometries.{geometries-hold}
 use Rattle.nand_phases.specs.Transfer.{inCache, inRange, placeOf, pageAt, columnAt, chunkOf, FILLER-CHUNK, fillerOf}
 use Rattle.nand_rust.specs.Bound.{pagesTouched, fillers}
+use Rattle.nand_rust.proofs.FillLoop.{filler-cases}
 
 -- ---- numbers
 
@@ -70,11 +71,12 @@ module _ (g : NandGeometry) (bounds : inBounds g ≡ true) where
       let below : address / page < pages = div-lt-iff-lt-mul some-page .1 h in
       rw (geometries-hold .exact g bounds .pageCount) (lt-ltb (address / page) pages below)
 
-  pub first-page-fits : (block : ℕ) → block < g .«block_count» → ltb (block * g .«pages_per_block») (pageCountOf g) ≡ true
+  pub first-page-fits : (block : ℕ) → block < g .«block_count» → ltb (firstPageOf g block) (pageCountOf g) ≡ true
+  unfolding firstPageOf
   first-page-fits block h =
       let b = geometries-hold .bounded g bounds in
       let l : suc block * g .«pages_per_block» ≤ g .«block_count» * g .«pages_per_block» = mul-le-mul-right (g .«pages_per_block») h in
-      rw (geometries-hold .exact g bounds .pageCount) (lt-ltb (block * g .«pages_per_block») pages (omega arith))
+      rw (geometries-hold .exact g bounds .pageCount) (lt-ltb (firstPageOf g block) pages (omega arith))
 
   -- ---- a read in range
 
@@ -94,12 +96,6 @@ module _ (g : NandGeometry) (bounds : inBounds g ≡ true) where
       let most : page ≤ 65535 = omega arith in
       let l : pages * page ≤ 16777216 * 65535 = mul-le-mul (b .pages) most in
       mod-eq-of-lt (omega arith)
-
-  pub chunk-some : (offset len done : ℕ) → done < len → 1 ≤ chunkOf g offset len done
-  unfolding chunkOf
-  chunk-some offset len done below =
-      let column : columnAt g (placeOf offset done) < page = mod-lt (placeOf offset done) some-page in
-      pieces.piece-some (page - columnAt g (placeOf offset done)) len done (omega arith) below
 
   -- ---- the pages that are left
 
@@ -131,7 +127,7 @@ module _ (g : NandGeometry) (bounds : inBounds g ≡ true) where
         (λ l. (omega arith, omega arith))
 
     -- behind a piece there is one page fewer
-    one-fewer : (done : ℕ) → done < len → pagesLeft done ≡ suc (pagesLeft (done + chunkOf g offset len done))
+    pub one-fewer : (done : ℕ) → done < len → pagesLeft done ≡ suc (pagesLeft (done + chunkOf g offset len done))
     unfolding chunkOf
     one-fewer done below =
         let a = offset + done in
@@ -165,21 +161,13 @@ module _ (g : NandGeometry) (bounds : inBounds g ≡ true) where
 
   -- ---- the filler
 
-  filler-cases : (G : ℕ → Type 0) (column : ℕ) → (page - column ≤ FILLER-CHUNK → G (page - column)) → (FILLER-CHUNK < page - column → G FILLER-CHUNK) → G (fillerOf g column)
-  unfolding fillerOf
-  filler-cases G column all whole =
-      by-order (page - column) FILLER-CHUNK (λ l. rw (le-leb (page - column) FILLER-CHUNK l) (all l)) (λ l. rw (lt-leb (page - column) FILLER-CHUNK l) (whole l))
-
-  pub filler-some : (column : ℕ) → column < page → 1 ≤ fillerOf g column
-  filler-some column below = filler-cases (λ n. 1 ≤ n) column (λ l. omega arith) (λ l. omega arith)
-
   pub filler-within : (column : ℕ) → column < page → column + fillerOf g column ≤ page
-  filler-within column below = filler-cases (λ n. column + n ≤ page) column (λ l. omega arith) (λ l. omega arith)
+  filler-within column below = filler-cases (λ n. column + n ≤ page) g column (λ l. omega arith) (λ l. omega arith)
 
   pub filler-turns : Counts page (λ column. column + fillerOf g column) (λ k column. page - column ≤ k * FILLER-CHUNK)
   filler-turns = record {
     none = λ column t. omega arith;
-    fewer = λ k column below t. filler-cases (λ n. page - (column + n) ≤ k * FILLER-CHUNK) column (λ l. omega arith) (λ l. omega arith);
+    fewer = λ k column below t. filler-cases (λ n. page - (column + n) ≤ k * FILLER-CHUNK) g column (λ l. omega arith) (λ l. omega arith);
   }
 
   pub fillers-enough : page - 0 ≤ fillers g * FILLER-CHUNK

@@ -14,12 +14,13 @@ use Rattle.spi_flash.specs.Prog.{_>>_}
 use Rattle.spi_flash.specs.Path.{delays, Reaches, Ends, Never}
 use Rattle.spi_flash.proofs.Laws.{ends-ret, ends-bind, ends-then, ends-eq, ends-reaches, reaches-never, never-left, never-then}
 use Rattle.spi_flash.proofs.Replies.{delivery}
+use Rattle.flash_runs.specs.Driver.{leaving}
 use Rattle.spi_nand.specs.Config.{singleConfig, inBounds}
 use Rattle.nand_answers.specs.declared.answer.Answer.{Answer}
 use Rattle.nand_phases.specs.declared.call.Call.{Call}
 use Rattle.nand_phases.specs.declared.setup.Setup.{Setup}
 use Rattle.nand_rust.specs.Rust.{mark-bad-block, constructed}
-use Rattle.nand_rust.specs.Program.{Left, leaving, rustProgram, programOf}
+use Rattle.nand_rust.specs.Program.{Left, rustProgram, programOf}
 use Rattle.nand_rust.specs.Bound.{delayBound}
 use Rattle.nand_rust.specs.ProgramBounds.{Begins, canEnd}
 use Rattle.nand_rust.proofs.Bounds.{never-is-bad}

@@ -22,8 +22,8 @@ use Rattle.nand_phases.specs.declared.setup.Setup.{Setup}
 use Rattle.nand_rust.specs.Bound.{pagesTouched, fillers}
 use Rattle.nand_rust.specs.Program.{refused-page}
 use Rattle.nand_rust.specs.Rust.{read-register, read-status, read-configuration, read-protection, wait-ready, write-enable, write-register, disable-quad, reset, jedec-id, reset-and-identify, wanted-of, ensure-configuration, unprotect, bring-up, load-page, page-read, read-cache, load-program-data, program-execute, read-page, write-page, erase-block, reading, read, is-bad-block, filling, mark-bad-block, with-config}
-use Rattle.nand_rust.proofs.Pages.{in-range, page-turns, pages-first, filler-turns, fillers-enough}
-use Rattle.nand_rust.proofs.ReadLoop.{reading-loop}
+use Rattle.nand_rust.proofs.Pages.{some-page, in-range, page-turns, pages-first, filler-turns, fillers-enough}
+use Rattle.nand_rust.proofs.ReadLoop.{reading-pieces}
 use Rattle.nand_rust.proofs.FillLoop.{filling-loop}
 
 -- so much for a read, by where its bytes go
@@ -220,14 +220,14 @@ module _ {w : Transfer → ℕ} {send moved fill : ℕ} {waits : Operation → �
       bounded-read offset len =
           bounded-guard _ _
           (λ e. let within = in-range (flash .geometry) bounds offset len (not-false _ e) in
-          bounded-loop len _ _ (reading flash offset len) (reading-loop flash offset len bounds) (page-turns (flash .geometry) bounds offset len within)
+          bounded-loop len _ _ (reading flash offset len) (reading-pieces flash (some-page (flash .geometry) bounds) offset len) (page-turns (flash .geometry) bounds offset len within)
           (λ d. bounded-then (bounded-page-read _) (bounded-read-cache _ _ (Sink.Buffer d))) (pagesTouched (flash .geometry) offset len) 0 (pages-first (flash .geometry) bounds offset len within))
 
       -- ---- mark_bad_block
 
       bounded-filling : Bounded w (fillers (flash .geometry) * moved) (filling flash 0)
       bounded-filling =
-          bounded-loop (flash .geometry .«page_size») _ _ (filling flash) (filling-loop flash bounds) (filler-turns (flash .geometry) bounds)
+          bounded-loop (flash .geometry .«page_size») _ _ (filling flash) (filling-loop flash) (filler-turns (flash .geometry) bounds)
           (λ c. bounded-load-data _ _ _) (fillers (flash .geometry)) 0 (fillers-enough (flash .geometry) bounds)
 
       pub bounded-mark : (block : ℕ) →

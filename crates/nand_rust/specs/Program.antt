@@ -9,6 +9,8 @@ use Rattle.qspi.specs.declared.transfer.Sink.{Sink}
 use Rattle.qspi.specs.declared.transfer.Transfer.{Transfer}
 use Rattle.spi_flash.specs.Prog.{Prog, ret, fail, _>>=_, _>>_, transfer}
 use Rattle.spi_flash.specs.declared.error.FlashError.{FlashError}
+use Rattle.flash_runs.specs.Driver as Driver
+use Rattle.flash_runs.specs.Driver.{leaving}
 use Rattle.spi_nand.specs.declared.config.GeometrySetting.{GeometrySetting}
 use Rattle.spi_nand.specs.declared.config.SpiNandConfig.{SpiNandConfig}
 use Rattle.nand_answers.specs.declared.answer.Answer.{Answer}
@@ -17,12 +19,8 @@ use Rattle.nand_phases.specs.declared.call.Call.{Call}
 use Rattle.nand_rust.specs.Rust.{read-status, read-configuration, read-protection, write-enable, write-register, disable-quad, reset, jedec-id, reset-and-identify, ensure-configuration, unprotect, page-read, read-cache, load-program-data, program-execute, read-page, write-page, erase-block, read, is-bad-block, mark-bad-block, MAX-VERIFY-PAGE-SIZE, with-config, new}
 
 -- the answer, and what the Rust's struct holds afterwards
-pub record Left : Type 0 where
-  pub answer : Answer
-  pub setup : Setup
-
-abbrev pub leaving : Setup → Answer → Left
-leaving setup answer = record { answer = answer; setup = setup }
+abbrev pub Left : Type 0
+Left = Driver.Left Setup Answer
 
 -- with a buffer of b bytes and data of d bytes
 unfoldable pub rustProgram : Setup → Call → ℕ → ℕ → Prog Left

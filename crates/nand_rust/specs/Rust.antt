@@ -15,7 +15,7 @@ use Rattle.spi_flash.specs.WaitLaw.{delayedWait}
 use Rattle.spi_flash.specs.declared.error.FlashError.{FlashError}
 use Rattle.spi_nand.specs.Opcode.{REG-STATUS, REG-CONFIGURATION, REG-BLOCK-PROTECTION, timingsOf}
 use Rattle.spi_nand.specs.Status.{busyValue, statusOf, writeEnabledOf, eraseFailedOf, programFailedOf, verdictOf, ECC-ENABLE, BUFFER-READ, QUAD-ENABLE, OPERATIONAL, configurationOf, configurationByte, quadEnabledOf, withBits, sameConfiguration, protectionOf, isUnlocked}
-use Rattle.spi_nand.specs.Config.{pageCountOf, singleConfig, fromJedec}
+use Rattle.spi_nand.specs.Config.{pageCountOf, firstPageOf, singleConfig, fromJedec}
 use Rattle.spi_nand.specs.Command.{resetCommand, getFeatureCommand, setFeatureCommand, writeEnableCommand, pageReadCommand, programExecuteCommand, blockEraseCommand}
 use Rattle.nand_phases.specs.Transfer.{registerTransfer, idTransfer, cacheReadTransfer, cacheLoadTransfer, inCache, inRange, placeOf, pageAt, columnAt, chunkOf, fillerOf}
 use Rattle.nand_phases.specs.Setup.{initOf, setupOf}
@@ -222,7 +222,7 @@ module _ (flash : Setup) where
     same ← read-page page (geometry .«page_size») (Sink.Compare 0)
     refuse (eqb same 0) FlashError.VerifyFailed
 
-  -- `if block >= self.geometry.block_count`
+  -- `if block >= self.geometry.block_count`; behind it `block * pages_per_block` is exact (`firstPageOf`)
   abbrev pub check-block : ℕ → Prog Nothing
   check-block block = refuse (not (ltb block (geometry .«block_count»))) FlashError.OutOfBounds
 
@@ -231,7 +231,7 @@ module _ (flash : Setup) where
   erase-block block = do
     check-block block
     write-enable
-    transfer (Transfer.Send (blockEraseCommand (block * geometry .«pages_per_block»)))
+    transfer (Transfer.Send (blockEraseCommand (firstPageOf geometry block)))
     wait-ready Operation.Erase
     status ← read-status
     refuse (eraseFailedOf status) FlashError.EraseFailed
@@ -259,7 +259,7 @@ module _ (flash : Setup) where
   unfoldable pub is-bad-block : ℕ → Prog Bool
   is-bad-block block = do
     check-block block
-    load-page (block * geometry .«pages_per_block»)
+    load-page (firstPageOf geometry block)
     marker ← read-cache (geometry .«page_size») 1 Sink.Number
     ret (not (eqb (marker % 256) 0xFF))
 
@@ -285,7 +285,7 @@ module _ (flash : Setup) where
       write-enable
       filling 0
       load-program-data (geometry .«page_size») 1 Payload.Marker
-      program-execute (block * geometry .«pages_per_block»)
+      program-execute (firstPageOf geometry block)
       marked ← is-bad-block block
       refuse (not marked) FlashError.VerifyFailed
 
