@@ -1,2 +1,9 @@
+pub mod Waits
 pub mod ReadLoop
 pub mod FillLoop
+pub mod Pages
+pub mod Weights
+pub mod Bounds
+pub mod Ends
+pub mod Reaches
+pub mod ProgramBounds

@@ -61,9 +61,13 @@ delayBound flash (Call.MarkBadBlock block) b = markBound (flash .geometry)
 
 -- ---- actions: 1 to raise select or to delay, 3 to send a command, 4 at most for a transfer with data
 
--- a command, the first delay, and looks of 4 actions with a delay behind every look but the last
+-- the first delay, and looks of 4 actions with a delay behind every look but the last
+abbrev pub waitActions : Operation → ℕ
+waitActions operation = 1 + 5 * looksOf operation
+
+-- a command and its wait
 abbrev pub taskActions : Operation → ℕ
-taskActions operation = 3 + (1 + 5 * looksOf operation)
+taskActions operation = 3 + waitActions operation
 
 -- write_enable and its look
 abbrev pub enableActions : ℕ

@@ -13,7 +13,7 @@ use Rattle.nand_phases.specs.Transfer.{inCache, inRange}
 use Rattle.nand_phases.specs.declared.call.Call.{Call}
 use Rattle.nand_phases.specs.declared.setup.Setup.{Setup}
 use Rattle.nand_rust.specs.Bound.{delayBound, actionBound}
-use Rattle.nand_rust.specs.Program.{Left, largePage, programOf}
+use Rattle.nand_rust.specs.Program.{Left, pageTaken, programOf}
 
 -- a page, and a block, of the device
 abbrev pub PageFits : Setup → ℕ → Type 0
@@ -59,7 +59,7 @@ Begins flash (Call.MarkBadBlock block) b d = BlockFits flash block
 -- that begins can end well
 abbrev pub canEnd : Setup → Call → Bool
 canEnd flash Call.New = true
-canEnd flash (Call.WithConfig config) = not (largePage (Call.WithConfig config))
+canEnd flash (Call.WithConfig config) = pageTaken (config .geometry)
 canEnd flash Call.Info = true
 canEnd flash Call.Config = true
 canEnd flash Call.Geometry = true

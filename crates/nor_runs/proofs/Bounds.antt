@@ -6,7 +6,7 @@ use mathlib.Core.Path.{_≡_}
 use Rattle.qspi.specs.Choice.{pick}
 use Rattle.qspi.specs.declared.transfer.Sink.{Sink}
 use Rattle.spi_flash.specs.Path.{delays, actions, Bounded}
-use Rattle.spi_flash.proofs.Laws.{bounded-more, bounded-ret}
+use Rattle.spi_flash.proofs.Laws.{bounded-more, bounded-ret, answered, ended}
 use Rattle.spi_nor.specs.Config.{singleConfig, inBoundsOf}
 use Rattle.nor_phases.specs.Transfer.{readAt, programAt, eraseOperation}
 use Rattle.spi_nor.specs.WaitTable.{largestOf}
@@ -20,7 +20,7 @@ use Rattle.nor_driver.specs.declared.state.Call.{Call}
 use Rattle.nor_phases.specs.declared.setup.Setup.{Setup}
 use Rattle.spi_nor.proofs.DeviceBounds.{deviceBounds}
 use Rattle.nor_runs.proofs.Waits.{wait-delays, wait-actions}
-use Rattle.nor_runs.proofs.Weights.{answered, ended, Weighs, bounded-status1, bounded-status2, bounded-is-busy, bounded-jedec-id, bounded-unique-id, bounded-quad-enabled, bounded-enable-quad, bounded-disable-quad, bounded-unprotect, bounded-read, bounded-write, bounded-unit, bounded-erase, bounded-with-config}
+use Rattle.nor_runs.proofs.Weights.{Weighs, bounded-status1, bounded-status2, bounded-is-busy, bounded-jedec-id, bounded-unique-id, bounded-quad-enabled, bounded-enable-quad, bounded-disable-quad, bounded-unprotect, bounded-read, bounded-write, bounded-unit, bounded-erase, bounded-with-config}
 
 -- ---- the delays
 

@@ -5,9 +5,10 @@ use native.Mathlib.Nat.{div-add-mod', mul-le-mul-right, add-mod-right, add-mul-m
 use mathlib.Core.Bool.{Bool, true, false}
 use mathlib.Core.Path.{_≡_, refl}
 use lib.Dec.{leb}
-use borrow.Author.Tests.{leb-true, le-leb, eq-eqb}
+use borrow.Author.Tests.{leb-true, eq-eqb}
 use Rattle.qspi.specs.Choice.{pick}
 use Rattle.qspi.proofs.Cases.{by-order}
+use Rattle.spi_flash.proofs.Pieces as pieces
 use Rattle.spi_nor.specs.Config.{inBoundsOf}
 use Rattle.nor_phases.specs.Transfer.{inRange, multipleOf, unitSize, stepKind}
 use Rattle.spi_nor.specs.declared.config.NorDeviceInfo.{NorDeviceInfo}
@@ -16,7 +17,7 @@ use Rattle.spi_nor.proofs.DeviceBounds.{deviceBounds}
 
 pub range-in : (capacity offset n : ℕ) → offset + n ≤ capacity → inRange capacity offset n ≡ true
 unfolding inRange
-range-in capacity offset n h = rw (le-leb offset capacity (omega arith)) (le-leb n (capacity - offset) (omega arith))
+range-in capacity offset n h = pieces.range-in capacity offset n h
 
 -- two multiples of a unit are a unit apart
 apart : (unit a b : ℕ) → a % unit ≡ 0 → b % unit ≡ 0 → a < b → a + unit ≤ b

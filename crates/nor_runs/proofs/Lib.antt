@@ -3,7 +3,6 @@ pub mod Waits
 pub mod Weights
 pub mod Bounds
 pub mod Unread
-pub mod Replies
 pub mod EraseSteps
 pub mod Reaches
 pub mod ProgramBounds

@@ -16,11 +16,13 @@ use Rattle.spi_flash.specs.Prog.{Prog, ret, _>>=_, _>>_, if_then_else_, refuse,
 use Rattle.qspi.specs.Bytes.{AllBytes}
 use Rattle.spi_flash.specs.Path.{Answers, delays, Reaches, Ends}
 use Rattle.qspi.proofs.Cases.{by-cases}
-use Rattle.spi_flash.proofs.Laws.{ends-ret, ends-bind, ends-then, ends-eq, ends-transfer, ends-refuse, ends-reaches}
+use Rattle.spi_flash.proofs.Laws.{ends-ret, ends-bind, ends-then, ends-eq, ends-transfer, ends-refuse, ends-guard, ends-reaches}
+use Rattle.spi_flash.proofs.Loops.{ends-loop}
+use Rattle.spi_flash.proofs.Replies.{byte, zeros, delivery, same-bytes}
 use Rattle.spi_nor.specs.Opcode.{MAX-BULK-LEN}
 use Rattle.spi_nor.specs.Status.{busyOf, writeEnabledOf, quadEnabled1Of, quadEnabled2Of, unprotected1Of, unprotected2Of}
 use Rattle.spi_nor.specs.Config.{fromJedec, singleConfig, inBoundsOf}
-use Rattle.nor_phases.specs.Transfer.{placeOf, chunkOf, readAt, readTransfer, programAt, programTransfer, inRange, multipleOf, unitSize, stepKind, afterUnit}
+use Rattle.nor_phases.specs.Transfer.{placeOf, pageOf, readAt, readTransfer, programAt, programTransfer, inRange, multipleOf, unitSize, stepKind, afterUnit}
 use Rattle.nor_driver.specs.Call.{givenAt}
 use Rattle.nor_next.specs.Next.{byteOf, deviceAt, deviceFor, idOf, knownAs}
 use Rattle.nor_driver.specs.Call.{freshSetup}
@@ -36,16 +38,10 @@ use Rattle.nor_driver.specs.declared.state.Call.{Call}
 use Rattle.nor_phases.specs.declared.setup.Setup.{Setup}
 use Rattle.spi_nor.specs.declared.opcode.Operation.{Operation}
 use Rattle.spi_nor.proofs.DeviceBounds.{deviceBounds}
-use Rattle.nor_phases.proofs.Pieces.{chunk-left, page-whole}
-use Rattle.nor_runs.proofs.Loops.{reading-loop, writing-loop, in-range, after-unit}
+use Rattle.nor_phases.proofs.Pieces.{page-whole}
+use Rattle.nor_runs.proofs.Loops.{reading-loop, writing-loop, chunk-turns, page-turns, in-range, after-unit}
 use Rattle.nor_runs.proofs.Waits.{wait-ends}
-use Rattle.nor_runs.proofs.Replies.{byte, three-zeros, eight-zeros, delivery, same-bytes}
 use Rattle.nor_runs.proofs.EraseSteps.{range-in, step-fits}
-
--- a test that lets the call through adds nothing
-ends-guard : {A : Type 0} {g : List ℕ} {w : Transfer → ℕ} {n : ℕ} {a : A} {p : Prog A} (b : Bool) (e : FlashError) → b ≡ false → Ends g w n a p → Ends g w n a (refuse b e >> p)
-unfolding refuse _>>_ _>>=_
-ends-guard b e h l = rw h l
 
 module _ (given : List ℕ) where
   -- ---- registers
@@ -62,11 +58,11 @@ module _ (given : List ℕ) where
 
   ends-jedec-id : Ends given delays 0 (idOf 0) jedec-id
   unfolding jedec-id
-  ends-jedec-id = ends-bind _ (ends-transfer 0 (three-zeros given)) ends-ret
+  ends-jedec-id = ends-bind _ (ends-transfer 0 (zeros given 3)) ends-ret
 
   ends-unique-id : Ends given delays 0 0 unique-id
   unfolding unique-id
-  ends-unique-id = ends-transfer 0 (eight-zeros given)
+  ends-unique-id = ends-transfer 0 (zeros given 8)
 
   ends-enable : Ends given delays 0 tt write-enable
   unfolding write-enable writeEnabledOf
@@ -128,16 +124,9 @@ module _ (given : List ℕ) where
     -- ---- read
 
     ends-reading : (offset len k done : ℕ) → len - done ≤ k * MAX-BULK-LEN → Ends given delays 0 tt (reading flash offset len done)
-    ends-reading offset len zero done h = rw (reading-loop flash offset len done, le-ltb done len (omega arith)) ends-ret
-    ends-reading offset len (suc k) done h = rw (reading-loop flash offset len done) (turn (ltb done len) (ends-reading offset len k next (omega (arith, chunk-left len done))))
-      where
-        next : ℕ
-        next = done + chunkOf len done
-
-        turn : (b : Bool) → Ends given delays 0 tt (reading flash offset len next) →
-            Ends given delays 0 tt (if b then (transfer (readTransfer flash (placeOf offset done) (chunkOf len done) (Sink.Buffer done)) >> reading flash offset len next) else ret (tt {0}))
-        turn true h = ends-then (ends-take _ _ 0 _ (delivery given _ _)) h
-        turn false h = ends-ret
+    ends-reading offset len k done h =
+        ends-eq (omega arith)
+        (ends-loop len _ _ (reading flash offset len) (reading-loop flash offset len) (chunk-turns len) (λ k d stop t. omega arith) (λ k d below t. (0, ends-take _ _ 0 _ (delivery given _ _))) k done h)
 
     ends-read : (offset len : ℕ) → inRange (flash .device .capacity) offset len ≡ true → Ends given delays 0 tt (read flash offset len)
     unfolding read
@@ -164,13 +153,18 @@ module _ (given : List ℕ) where
     place offset done h = let z : done % 4294967296 ≡ done = mod-eq-of-lt (omega arith) in rw z (mod-eq-of-lt (omega arith))
 
     module _ (some : 1 ≤ page) (small : AllBytes given) (offset len : ℕ) (whole : length given ≡ len) (r : offset + len ≤ flash .device .capacity) where
-      ends-writing : (k done : ℕ) → len - done ≡ k * page → Ends given delays (k * 20000) tt (writing flash offset len done)
-      ends-writing zero done h = rw (writing-loop flash some offset len done, le-ltb done len (omega arith)) ends-ret
-      ends-writing (suc k) done h =
+      ends-page : (k done : ℕ) → done < len → len - done ≡ suc k * page → Ends given delays 20000 tt (page-program flash (placeOf offset done) done (pageOf (flash .device) len done))
+      ends-page k done below t =
           let c = deviceBounds .accepted (flash .device) bounds .capacity in
-          let n = page-whole (flash .device) len done some (omega arith) in
-          rw (writing-loop flash some offset len done, lt-ltb done len (omega arith), n, place offset done (omega arith))
-          (ends-eq (omega arith) (ends-then (ends-program (offset + done) done page small (omega arith) (omega arith)) (ends-writing k (done + page) (omega arith))))
+          rw (page-whole (flash .device) len done some (omega arith), place offset done (omega arith)) (ends-program (offset + done) done page small (omega arith) (omega arith))
+
+      ends-writing : (k done : ℕ) → len - done ≡ k * page → Ends given delays (k * 20000) tt (writing flash offset len done)
+      ends-writing k done h =
+          ends-loop len _ _ (writing flash offset len) (writing-loop flash some offset len) (page-turns (flash .device) len some) exact (λ k d below t. (tt, ends-page k d below t)) k done h
+        where
+          exact : (k done : ℕ) → len ≤ done → len - done ≡ k * page → k * 20000 ≡ 0
+          exact zero done stop t = refl
+          exact (suc k) done stop t = absurd (omega arith)
 
       ends-write : multipleOf offset page ≡ true → multipleOf len page ≡ true → Ends given delays (len / page * 20000) tt (write flash offset len)
       unfolding write multipleOf
@@ -242,14 +236,14 @@ module _ (given : List ℕ) where
       rw h
       (ends-eq (omega arith)
       (ends-then (ends-transfer 0 refl)
-      (ends-bind _ (ends-transfer 0 (three-zeros given))
+      (ends-bind _ (ends-transfer 0 (zeros given 3))
       (ends-guard _ _ (page-taken (config .device) h) (ends-then (ends-quad-if (config .quad)) ends-ret)))))
 
   -- a page above 512 is refused once the id is read
   refused-with-config : (config : SpiNorConfig) → pageTaken (config .device) ≡ false → {B : Type 0} (f : Setup → Prog B) → Reaches given delays (constructionBound config) (with-config config >>= f)
   unfolding with-config deviceFor refuse _>>_ _>>=_
   refused-with-config config h f =
-      rw h (record { reach = (0, refl, (0, three-zeros given, rw (page-refused (config .device) h) refl)) })
+      rw h (record { reach = (0, refl, (0, zeros given 3, rw (page-refused (config .device) h) refl)) })
 
 module _ (flash : Setup) (bounds : inBoundsOf (flash .device) ≡ true) where
   -- every call that begins comes to its bill at a good end, but for a construction with too large a page

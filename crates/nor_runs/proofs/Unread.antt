@@ -12,7 +12,7 @@ use Rattle.spi_flash.specs.Prog.{ret, _>>=_, _>>_, refuse, transfer}
 use Rattle.spi_flash.specs.Path.{Bounded}
 use Rattle.qspi.proofs.Cases.{by-cases}
 use Rattle.spi_flash.proofs.Filling.{Fills}
-use Rattle.spi_flash.proofs.Laws.{bounded-more, bounded-ret}
+use Rattle.spi_flash.proofs.Laws.{bounded-more, bounded-ret, answered, ended}
 use Rattle.spi_flash.proofs.Unread.{bufferReads, unread-wait}
 use Rattle.spi_nor.specs.Opcode.{timingsOf}
 use Rattle.spi_nor.specs.Command.{readStatus1Command}
@@ -33,7 +33,7 @@ use Rattle.nor_runs.specs.Program.{Left, leaving, programOf}
 use Rattle.nor_runs.specs.Bound.{pageTaken, eraseSum}
 use Rattle.nor_runs.specs.Run.{takesOf, takesBuffer}
 use Rattle.nor_runs.proofs.Loops.{chunk-some, reading-loop}
-use Rattle.nor_runs.proofs.Weights.{answered, ended, Weighs, bounded-status1, bounded-status2, bounded-is-busy, bounded-jedec-id, bounded-unique-id, bounded-quad-enabled, bounded-enable-quad, bounded-disable-quad, bounded-unprotect, bounded-write, bounded-unit, bounded-erase, bounded-with-config}
+use Rattle.nor_runs.proofs.Weights.{Weighs, bounded-status1, bounded-status2, bounded-is-busy, bounded-jedec-id, bounded-unique-id, bounded-quad-enabled, bounded-enable-quad, bounded-disable-quad, bounded-unprotect, bounded-write, bounded-unit, bounded-erase, bounded-with-config}
 
 true≢false : true ≡ false → ⊥
 true≢false h = let z : _≡_ {A = ℕ} 0 1 = cc in omega arith

@@ -13,7 +13,8 @@ use Rattle.qspi.specs.declared.transfer.Transfer.{Transfer}
 use Rattle.spi_flash.specs.declared.error.FlashError.{FlashError}
 use Rattle.spi_flash.specs.Prog.{Prog, ret, _>>=_, _>>_, if_then_else_, refuse, transfer}
 use Rattle.spi_flash.specs.Path.{Bounded}
-use Rattle.spi_flash.proofs.Laws.{bounded-more, bounded-ret, bounded-fail, bounded-bind, bounded-then, bounded-refuse, bounded-if, bounded-transfer}
+use Rattle.spi_flash.proofs.Laws.{bounded-more, bounded-ret, bounded-fail, bounded-bind, bounded-then, bounded-refuse, bounded-if, bounded-transfer, bounded-guard}
+use Rattle.spi_flash.proofs.Loops.{bounded-loop}
 use Rattle.spi_nor.specs.Status.{quadEnabled1Of, quadEnabled2Of, unprotected1Of, unprotected2Of}
 use Rattle.spi_nor.specs.Opcode.{MAX-BULK-LEN}
 use Rattle.nor_phases.specs.Transfer.{numberTransfer, chunkOf, pageOf, readAt, readTransfer, programAt, programTransfer, eraseTransfer, eraseOperation, multipleOf, stepKind, afterUnit}
@@ -29,21 +30,7 @@ use Rattle.spi_nor.specs.declared.config.SpiNorConfig.{SpiNorConfig}
 use Rattle.nor_phases.specs.declared.phase.EraseKind.{EraseKind}
 use Rattle.nor_phases.specs.declared.setup.Setup.{Setup}
 use Rattle.spi_nor.specs.declared.opcode.Operation.{Operation}
-use Rattle.nor_phases.proofs.Pieces.{chunk-left, page-whole}
-use Rattle.nor_runs.proofs.Loops.{reading-loop, writing-loop}
-
--- what stands behind a refusal needs its bound only where the test lets it through
-bounded-guard : {A : Type 0} {w : Transfer → ℕ} {n : ℕ} {p : Prog A} (b : Bool) (e : FlashError) → (b ≡ false → Bounded w n p) → Bounded w n (refuse b e >> p)
-unfolding refuse _>>_ _>>=_
-bounded-guard true e h = bounded-fail
-bounded-guard false e h = h refl
-
--- the answer adds nothing
-pub answered : {A B : Type 0} {w : Transfer → ℕ} {p : Prog A} {n m : ℕ} (f : A → B) → n ≤ m → Bounded w n p → Bounded w m (p >>= (λ a. ret (f a)))
-answered f l h = bounded-more (omega arith) (bounded-bind {c = 0} h (λ a. bounded-ret))
-
-pub ended : {A B : Type 0} {w : Transfer → ℕ} {p : Prog A} {n m : ℕ} (a : B) → n ≤ m → Bounded w n p → Bounded w m (p >> ret a)
-ended a l h = bounded-more (omega arith) (bounded-then {c = 0} h bounded-ret)
+use Rattle.nor_runs.proofs.Loops.{reading-loop, writing-loop, chunk-turns, page-turns}
 
 -- figures for the transfers of the NOR, but for the raise of select
 pub record Weighs (w : Transfer → ℕ) (send moved fill : ℕ) (waits : Operation → ℕ) : Type 0 where
@@ -156,13 +143,8 @@ module _ {w : Transfer → ℕ} {send moved fill : ℕ} {waits : Operation → �
     -- ---- read: so much a piece
 
     bounded-reading : (offset len k done : ℕ) → len - done ≤ k * MAX-BULK-LEN → Bounded w (k * fill) (reading flash offset len done)
-    bounded-reading offset len zero done h = rw (reading-loop flash offset len done, le-ltb done len (omega arith)) bounded-ret
-    bounded-reading offset len (suc k) done h =
-        let l = chunk-left len done in
-        rw (reading-loop flash offset len done)
-        (bounded-if (ltb done len)
-        (bounded-more (omega arith) (bounded-then (bounded-fill _ _ _) (bounded-reading offset len k (done + chunkOf len done) (omega arith))))
-        bounded-ret)
+    bounded-reading offset len k done h =
+        bounded-loop len _ _ (reading flash offset len) (reading-loop flash offset len) (chunk-turns len) (λ d. bounded-fill _ _ _) k done h
 
     pub bounded-read : (offset len : ℕ) → Bounded w (pieces len * fill) (read flash offset len)
     unfolding read
@@ -189,13 +171,8 @@ module _ {w : Transfer → ℕ} {send moved fill : ℕ} {waits : Operation → �
         (bounded-bind (bounded-then (bounded-refuse _ _) (bounded-compare _ _ _)) (λ same. bounded-refuse _ _)))))
 
     bounded-writing : 1 ≤ page → (offset len k done : ℕ) → len - done ≡ k * page → Bounded w (k * paged) (writing flash offset len done)
-    bounded-writing some offset len zero done h = rw (writing-loop flash some offset len done, le-ltb done len (omega arith)) bounded-ret
-    bounded-writing some offset len (suc k) done h =
-        let next = page-whole (flash .device) len done some (omega arith) in
-        rw (writing-loop flash some offset len done)
-        (bounded-if (ltb done len)
-        (bounded-more (omega arith) (bounded-then (bounded-program _ _ _) (bounded-writing some offset len k (done + pageOf (flash .device) len done) (omega arith))))
-        bounded-ret)
+    bounded-writing some offset len k done h =
+        bounded-loop len _ _ (writing flash offset len) (writing-loop flash some offset len) (page-turns (flash .device) len some) (λ d. bounded-program _ _ _) k done h
 
     pub bounded-write : 1 ≤ page → (offset len : ℕ) → Bounded w (len / page * paged) (write flash offset len)
     unfolding write multipleOf

@@ -2,7 +2,7 @@
 use Prim.Native.Nat.{ℕ, _+_, _≤_}
 use native.Mathlib.Omega.{arith}
 use native.Mathlib.Nat.{add-assoc, zero-add}
-use mathlib.Core.Path.{_≡_, refl, ap, sym, subst, _∙_}
+use mathlib.Core.Path.{_≡_, refl, ap, sym, subst, _∙_, fun-ext}
 use mathlib.Core.List.{List, [], _∷_, _++_}
 use mathlib.Core.Bool.{Bool, true, false}
 use Rattle.qspi.specs.declared.transfer.Transfer.{Transfer}
@@ -10,6 +10,14 @@ use Rattle.frames.specs.declared.frame.Outcome.{Outcome}
 use Rattle.spi_flash.specs.declared.error.FlashError.{FlashError}
 use Rattle.spi_flash.specs.Prog.{Prog, ret, fail, ask, _>>=_, _>>_, if_then_else_, refuse, transfer}
 use Rattle.spi_flash.specs.Path.{Past, back, End, going, done, failed, spent, asked, Every, Some, Well, IfWell, Fits, Bounded, Reaches, Ends, AtLeast, Never}
+
+-- ---- programs
+
+pub then-assoc : {A B C : Type 0} (p : Prog A) (q : Prog B) (r : Prog C) → (p >> q >> r) ≡ (p >> (q >> r))
+unfolding _>>_ _>>=_
+then-assoc (ret a) q r = refl
+then-assoc (fail e) q r = refl
+then-assoc (ask t k) q r = ap (ask t) (fun-ext (λ v. then-assoc (k v) q r))
 
 -- ---- every path
 
@@ -113,6 +121,19 @@ bounded-if false h k = k
 pub bounded-transfer : {w : Transfer → ℕ} {t : Transfer} → Bounded w (w t) (transfer t)
 bounded-transfer = bounded-more (omega arith) (bounded-ask (λ v. bounded-ret {b = 0}))
 
+-- what stands behind a refusal needs its bound only where the test lets it through
+pub bounded-guard : {A : Type 0} {w : Transfer → ℕ} {n : ℕ} {p : Prog A} (b : Bool) (e : FlashError) → (b ≡ false → Bounded w n p) → Bounded w n (refuse b e >> p)
+unfolding refuse _>>_ _>>=_
+bounded-guard true e h = bounded-fail
+bounded-guard false e h = h refl
+
+-- the answer adds nothing
+pub answered : {A B : Type 0} {w : Transfer → ℕ} {p : Prog A} {n m : ℕ} (f : A → B) → n ≤ m → Bounded w n p → Bounded w m (p >>= (λ a. ret (f a)))
+answered f l h = bounded-more (omega arith) (bounded-bind {c = 0} h (λ a. bounded-ret))
+
+pub ended : {A B : Type 0} {w : Transfer → ℕ} {p : Prog A} {n m : ℕ} (a : B) → n ≤ m → Bounded w n p → Bounded w m (p >> ret a)
+ended a l h = bounded-more (omega arith) (bounded-then {c = 0} h bounded-ret)
+
 -- ---- Ends and Reaches, on the caller's data
 
 pub ends-ret : {A : Type 0} {g : List ℕ} {w : Transfer → ℕ} {a : A} → Ends g w 0 a (ret a)
@@ -162,6 +183,9 @@ pub reaches-then : {A B : Type 0} {g : List ℕ} {w : Transfer → ℕ} {p : Pro
 unfolding _>>_
 reaches-then {q = q} h k = reaches-bind (λ _. q) h k
 
+pub reaches-fail : {A : Type 0} {g : List ℕ} {w : Transfer → ℕ} {e : FlashError} → Reaches {A = A} g w 0 (fail e)
+reaches-fail = record { reach = refl }
+
 pub ends-eq : {A : Type 0} {g : List ℕ} {w : Transfer → ℕ} {p : Prog A} {a : A} {b c : ℕ} → b ≡ c → Ends g w b a p → Ends g w c a p
 ends-eq {g = g} {w} {p} {a} e h = subst (λ n. Ends g w n a p) e h
 
@@ -174,6 +198,11 @@ ends-transfer v h = ends-eq (omega arith) (ends-ask ret v h ends-ret)
 pub ends-refuse : {g : List ℕ} {w : Transfer → ℕ} (c : Bool) (e : FlashError) → c ≡ false → Ends g w 0 tt (refuse c e)
 unfolding refuse
 ends-refuse c e h = rw h ends-ret
+
+-- a test that lets the call through adds nothing
+pub ends-guard : {A : Type 0} {g : List ℕ} {w : Transfer → ℕ} {n : ℕ} {a : A} {p : Prog A} (b : Bool) (e : FlashError) → b ≡ false → Ends g w n a p → Ends g w n a (refuse b e >> p)
+unfolding refuse _>>_ _>>=_
+ends-guard b e h l = rw h l
 
 -- ---- AtLeast: what holds of the good ends alone
 
@@ -242,3 +271,32 @@ never-left {p = p} f n = record { never = if-well-bind p f (λ a xs. ⊥) (λ a 
 
 pub never-right : {A B : Type 0} (p : Prog A) {f : A → Prog B} → ((a : A) → Never (f a)) → Never (p >>= f)
 never-right p {f} n = record { never = if-well-bind p f (λ a xs. Unit {0}) (λ a xs. ⊥) (if-well-all p (λ a xs. Unit {0}) (λ a xs. tt)) (λ xs a l. n a .never) }
+
+pub never-then : {A B : Type 0} (p : Prog A) {q : Prog B} → Never q → Never (p >> q)
+unfolding _>>_
+never-then p n = never-right p (λ a. n)
+
+-- a test that turns the call away
+pub never-refused : {A : Type 0} (p : Prog A) (b : Bool) (e : FlashError) → b ≡ true → Never (refuse b e >> p)
+unfolding refuse _>>_ _>>=_
+never-refused p b e h = rw h never-fail
+
+pub reaches-refused : {A : Type 0} {g : List ℕ} {w : Transfer → ℕ} (p : Prog A) (b : Bool) (e : FlashError) → b ≡ true → Reaches g w 0 (refuse b e >> p)
+unfolding refuse _>>_ _>>=_
+reaches-refused p b e h = rw h reaches-fail
+
+some-never : {A B : Type 0} (g : List ℕ) (p : Prog A) (f : A → Prog B) (N P : List Past → End A → Type 0) (Q : List Past → End B → Type 0) →
+    ((xs : List Past) (a : A) → N xs (done a) → ⊥) →
+    ((xs : List Past) (e : FlashError) → P xs (failed e) → Q xs (failed e)) →
+    Every p N → Some g p P → Some g (p >>= f) Q
+unfolding _>>=_
+some-never g (ret a) f N P Q n l h m = absurd (n [] a h)
+some-never g (fail e) f N P Q n l h m = l [] e m
+some-never g (ask t k) f N P Q n l h m =
+    let x = back t (Outcome.Value (m .0)) in
+    (m .0, m .1, some-never g (k (m .0)) f (λ xs e. N (x ∷ xs) e) (λ xs e. P (x ∷ xs) e) (λ xs e. Q (x ∷ xs) e) (λ xs a. n (x ∷ xs) a) (λ xs e. l (x ∷ xs) e) (h .2 (m .0)) (m .2))
+
+pub reaches-never : {A B : Type 0} {g : List ℕ} {w : Transfer → ℕ} {p : Prog A} (f : A → Prog B) {b : ℕ} → Never p → Reaches g w b p → Reaches g w b (p >>= f)
+reaches-never {g = g} {w} {p} f {b} n h = record {
+  reach = some-never g p f (IfWell (λ a xs. ⊥)) (λ xs e. asked w xs e ≡ b) (λ xs e. asked w xs e ≡ b) (λ xs a m. m) (λ xs e m. omega arith) (n .never) (h .reach);
+}

@@ -1,8 +1,12 @@
 pub mod Table
 pub mod Bits
+pub mod Pieces
 pub mod Laws
 pub mod Giving
+pub mod Replies
 pub mod Waiting
+pub mod WaitActions
+pub mod Loops
 pub mod Runs
 pub mod Reach
 pub mod OnBus

@@ -4,7 +4,7 @@ use native.Mathlib.Omega.{arith}
 use native.Mathlib.Nat.{mul-le-mul-left, mul-le-mul-right, div-add-mod', mod-lt}
 use mathlib.Core.Bool.{Bool, true, false, not}
 use mathlib.Core.Path.{_≡_, refl, ap, sym, _∙_}
-use mathlib.Core.List.{List, [], _∷_}
+use mathlib.Core.List.{List}
 use borrow.Author.Tests.{le-leb, lt-leb, leb-false}
 use lib.Dec.{leb, lit<}
 use Rattle.qspi.specs.declared.command.Command.{Command}
@@ -13,9 +13,10 @@ use Rattle.qspi.specs.declared.transfer.Transfer.{Transfer}
 use Rattle.spi_flash.specs.declared.error.FlashError.{FlashError}
 use Rattle.spi_flash.specs.declared.wait.Timings.{Timings}
 use Rattle.spi_flash.specs.Prog.{Prog, ret, fail, _>>=_, _>>_, if_then_else_, transfer}
-use Rattle.spi_flash.specs.Path.{Every, delays, Bounded, Ends, Answers}
+use Rattle.spi_flash.specs.Path.{Every, delays, Bounded, Ends}
 use Rattle.spi_flash.specs.WaitLaw.{lookAt, waitLoop, waiting, delayedWait, promptWait, WaitLoop, pollCount, lookWeight, looking, pausing, TakesTurns, WaitLaw, WaitInGeneral}
 use Rattle.spi_flash.proofs.Laws.{bounded-ask, bounded-ret, bounded-fail, bounded-then, bounded-if, bounded-more, bounded-transfer, ends-ask, ends-ret, ends-then, ends-transfer, ends-eq}
+use Rattle.spi_flash.proofs.Replies.{byte}
 
 -- the least number of polls after which the sum is at or above the limit
 record Least (first poll limit k : ℕ) : Type 0 where
@@ -109,10 +110,6 @@ module _ (status : Command) (busy : ℕ → Bool) where
     bounded-polls zero = bounded-more (omega arith) (bounded-ask (λ s. bounded-if (not (busy s)) bounded-ret (bounded-fail {b = 0})))
     bounded-polls (suc k) =
         bounded-more (omega arith) (bounded-ask (λ s. bounded-if (not (busy s)) bounded-ret (bounded-then bounded-transfer (bounded-polls k))))
-
-    -- one status byte
-    byte : (given : List ℕ) (b : ℕ) → b < 256 → Answers given 1 Sink.Number b
-    byte given b h = record { bytes = b ∷ []; size = refl; small = (h, tt); value = omega arith }
 
     -- busy k times, and then ready
     ends-polls : (given : List ℕ) → busy 0 ≡ false → busy 1 ≡ true → (k : ℕ) → Ends given w (k * each + w (Transfer.Read status 1 Sink.Number)) tt (polls k poll)

@@ -7,14 +7,17 @@ use lib.Dec.{lit<}
 use lib.ListN.{length, take, drop, replicate, length-drop, length-replicate}
 use lib.Seq.{length-take-le}
 use borrow.Author.Tests.{eq-eqb}
-use Rattle.qspi.specs.Bytes.{beginsOf}
+use Rattle.qspi.specs.Bytes.{AllBytes, numberFrom, beginsOf}
 use Rattle.qspi.specs.declared.transfer.Sink.{Sink}
-use Rattle.qspi.specs.Bytes.{AllBytes}
 use Rattle.spi_flash.specs.Path.{Answers}
 
-pub zeros-small : (n : ℕ) → AllBytes (replicate n 0)
+zeros-small : (n : ℕ) → AllBytes (replicate n 0)
 zeros-small zero = tt
 zeros-small (suc n) = (lit< tt, zeros-small n)
+
+zeros-number : (n : ℕ) → numberFrom 0 (replicate n 0) ≡ 0
+zeros-number zero = refl
+zeros-number (suc n) = zeros-number n
 
 take-small : (n : ℕ) (bs : List ℕ) → AllBytes bs → AllBytes (take n bs)
 take-small zero bs h = tt
@@ -36,12 +39,9 @@ module _ (given : List ℕ) where
   pub byte : (b : ℕ) → b < 256 → Answers given 1 Sink.Number b
   byte b h = record { bytes = b ∷ []; size = refl; small = (h, tt); value = omega arith }
 
-  -- the id and the unique id 0
-  pub three-zeros : Answers given 3 Sink.Number 0
-  three-zeros = record { bytes = replicate 3 0; size = refl; small = zeros-small 3; value = refl }
-
-  pub eight-zeros : Answers given 8 Sink.Number 0
-  eight-zeros = record { bytes = replicate 8 0; size = refl; small = zeros-small 8; value = refl }
+  -- an id that is 0
+  pub zeros : (n : ℕ) → Answers given n Sink.Number 0
+  zeros n = record { bytes = replicate n 0; size = length-replicate n 0; small = zeros-small n; value = zeros-number n }
 
   pub delivery : (n at : ℕ) → Answers given n (Sink.Buffer at) 0
   delivery n at = record { bytes = replicate n 0; size = length-replicate n 0; small = zeros-small n; value = refl }
