@@ -2,4 +2,3 @@ pub mod Rust
 pub mod Program
 pub mod Bound
 pub mod ProgramBounds
-pub mod Observer
