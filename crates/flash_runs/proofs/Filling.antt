@@ -62,7 +62,7 @@ module _ (reads : List ℕ → Bool) (len : ℕ) where
   FillsBy n (Transfer.Send c) later = later n
   FillsBy n (Transfer.Read c m sink) later = FillsSink (reads (commandBytes c)) len n m sink later
   FillsBy n (Transfer.Write c payload) later = later n
-  FillsBy n (Transfer.QuadRead c tclqv margin m sink) later = FillsSink (reads (commandBytes c)) len n m sink later
+  FillsBy n (Transfer.QuadRead c tclqv margin m sink) later = FillsSink true len n m sink later
   FillsBy n (Transfer.QuadWrite c payload) later = later n
 
   -- every byte read for the caller goes to the buffer, behind the n that were read before
@@ -99,7 +99,7 @@ module _ (reads : List ℕ → Bool) (len : ℕ) where
   MineAt Stage.Payload (Transfer.Send c) mine = Unit {0}
   MineAt Stage.Payload (Transfer.Read c m sink) mine = mine ≡ reads (commandBytes c)
   MineAt Stage.Payload (Transfer.Write c payload) mine = Unit {0}
-  MineAt Stage.Payload (Transfer.QuadRead c tclqv margin m sink) mine = mine ≡ reads (commandBytes c)
+  MineAt Stage.Payload (Transfer.QuadRead c tclqv margin m sink) mine = mine ≡ true
   MineAt Stage.Payload (Transfer.QuadWrite c payload) mine = Unit {0}
   MineAt Stage.High t mine = Unit {0}
 
@@ -225,7 +225,7 @@ module _ (reads : List ℕ → Bool) (len : ℕ) where
         fed-payload m (Transfer.Read c m sink) sink refl (eqb-true (length bytes) m fit) (told-whose (reads (commandBytes c)) m sink (h .whose) (h .fills))
     fed-data (Transfer.Write c payload) h fit = absurd (false≢true fit)
     fed-data (Transfer.QuadRead c tclqv margin m sink) h fit =
-        fed-payload m (Transfer.QuadRead c tclqv margin m sink) sink refl (eqb-true (length bytes) m fit) (told-whose (reads (commandBytes c)) m sink (h .whose) (h .fills))
+        fed-payload m (Transfer.QuadRead c tclqv margin m sink) sink refl (eqb-true (length bytes) m fit) (told-whose true m sink (h .whose) (h .fills))
     fed-data (Transfer.QuadWrite c payload) h fit = absurd (false≢true fit)
 
     no-start-data : (t : Transfer) → fitsAt (awaitsOf (startAction t)) Reply.Data (length bytes) ≡ true → ⊥

@@ -1,7 +1,7 @@
 -- The bytes that a call reads for its caller, and the caller's buffer (document 01: "Its data replies answer reads from the chip's
 -- cache, not of a register; the bytes read are those of its data replies so far").
 use Prim.Native.Nat.{ℕ, _+_}
-use mathlib.Core.Bool.{Bool}
+use mathlib.Core.Bool.{Bool, true}
 use mathlib.Core.Path.{_≡_}
 use mathlib.Core.List.{List, [], _∷_, _++_}
 use lib.ListN.{length, drop}
@@ -41,13 +41,13 @@ inFront bytes old = bytes ++ drop (length bytes) old
 -- ---- over a run, by the commands whose data are the caller's
 
 module _ (reads : List ℕ → Bool) where
-  -- whether the data that come next are the caller's: the last command tells
+  -- whether the data that come next are the caller's: the last command tells, and a quad read always asks for them
   abbrev pub mineAfter : Shown → Bool → Bool
   mineAfter low mine = mine
   mineAfter high mine = mine
   mineAfter (write bytes) mine = reads bytes
   mineAfter (read n) mine = mine
-  mineAfter (quadRead command tclqv margin n) mine = reads command
+  mineAfter (quadRead command tclqv margin n) mine = true
   mineAfter (quadWrite command payload) mine = mine
   mineAfter (delay us) mine = mine
 
