@@ -30,6 +30,9 @@ use Rattle.flash_runs.proofs.Views.{true≢false, driven, Began, making
 abbrev made-in : {S P : Type 0} → Flash S P → Option S
 made-in flash = pick (flash .built) (some (flash .setup)) none
 
+both-there : {S : Type 0} (s : S) {a b : Bool} → a ≡ true → b ≡ true → pick a (some s) none ≡ pick b (some s) none
+both-there s h k = rw (h, k) refl
+
 -- ---- a driver at rest
 
 module _ {S P A C : Type 0} (parts : Parts S P A C) (inBounds : S → Bool) where
@@ -112,9 +115,9 @@ module _ {F C S P A : Type 0} (driver : Driver F C S A) (parts : Parts S P A C) 
   kept-driver : (x : Sort S) (flash : F) (l : Lent) (built : Bool) (left : Option (Left S A)) → Kept driver parts Valid Built meaning x built → Ready driver x flash l →
       pick built (some (driver .setup flash)) none ≡ driverAfter x (driverOf driver flash) left
   kept-driver (constructs fresh) flash l built left k h = absurd k
-  kept-driver tells flash l built left k h = rw (k, h) refl
+  kept-driver tells flash l built left k h = both-there (driver .setup flash) k h
   kept-driver releases flash l built left k h = rw k refl
-  kept-driver (uses takes) flash l built left k h = rw (k, h .0) refl
+  kept-driver (uses takes) flash l built left k h = both-there (driver .setup flash) k (h .0)
 
   module _ (flash : F) (c : C) (l : Lent) (es : List (Event C)) where
     abbrev viewing : Flash S P

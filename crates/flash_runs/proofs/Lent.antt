@@ -52,7 +52,7 @@ module _ {F C S P A : Type 0} (driver : Driver F C S A) (parts : Parts S P A C) 
 
   -- what is known of a call's program, by what the call takes
   abbrev Lends : Takes → Type 0
-  Lends takes = LendsAs driver parts Valid Built meaning (driver .setup flash) c len (length (l .given)) takes
+  Lends takes = LendsAs driver (driver .setup flash) c len (length (l .given)) takes
 
   lends : Opened → Lends (takesAt driver c l)
   lends o = supplies .lent (driver .setup flash) c len (length (l .given)) (o .bounds)
