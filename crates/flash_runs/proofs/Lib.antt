@@ -2,6 +2,7 @@ pub mod General
 pub mod Filling
 pub mod Buffer
 pub mod Supplies
+pub mod Asking
 pub mod Steps
 pub mod Runs
 pub mod Views
