@@ -1,7 +1,7 @@
 -- What a driver must supply, and then all promises hold of it (`promises` of proofs/Promises.antt): that it
 -- is the general driver (`Is`), and what its calls' programs come to (`Supplies`).
 use Prim.Native.Nat.{ℕ}
-use mathlib.Core.Bool.{Bool, true, false}
+use mathlib.Core.Bool.{Bool, true}
 use mathlib.Core.Path.{_≡_, sym, subst}
 use mathlib.Core.List.{List}
 use lib.ListN.{length, take}
@@ -18,7 +18,7 @@ use Rattle.spi_flash.specs.Run.{Moved}
 use Rattle.spi_flash.specs.Seen.{selectAfter}
 use Rattle.spi_flash.specs.declared.loan.Takes.{Takes}
 use Rattle.spi_flash.proofs.Unread.{bufferReads}
-use Rattle.flash_runs.specs.Driver.{Left, leaving, Sort, constructs, tells, releases, uses, takesOf, takesBuffer, worksOn, Driver}
+use Rattle.flash_runs.specs.Driver.{Left, leaving, Sort, constructs, tells, releases, uses, takesOf, worksOn, Driver}
 use Rattle.flash_runs.proofs.General as General
 use Rattle.flash_runs.proofs.General.{Then, Opening, constructing, telling, releasing, working, Parts, Running, isBusy, Flash, flashOf, Place, place, decide, decideNext, general}
 use Rattle.flash_runs.proofs.Filling.{Fills}
@@ -133,6 +133,16 @@ module _ {F C S P A : Type 0} (driver : Driver F C S A) (parts : Parts S P A C) 
     pub endsWell : (s : S) (c : C) (b : ℕ) (given : List ℕ) → Bounds driver s c b (length given) → AllBytes given → Asks (driver .program s c b (length given)) →
         driver .canEnd s c b (length given) ≡ true → (n : ℕ) × (left : Left S A) × Ends given delays n left (driver .program s c b (length given))
     pub lent : (s : S) (c : C) (b d : ℕ) → Bounds driver s c b d → LendsAs driver s c b d (takesOf (driver .sort c b d))
+
+-- all that is known of a driver
+pub record Known {F C S A : Type 0} (driver : Driver F C S A) : Type 1 where
+  pub P : Type 0
+  pub parts : Parts S P A C
+  pub Valid : Place S P → Type 0
+  pub Built : P → Type 0
+  pub meaning : Place S P → ℕ → Prog (Left S A)
+  pub supplies : Supplies driver parts Valid Built meaning
+  pub is : Is driver parts
 
 -- where validity is a matter of what the driver holds, a call that keeps it stays valid
 pub onward-stays : {S P A : Type 0} (Valid : Place S P → Type 0) (Built : P → Type 0) (s : S) → ((phase : P) → Built phase → Valid (place s phase)) →

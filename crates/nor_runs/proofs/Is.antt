@@ -31,7 +31,6 @@ use Rattle.nor_driver.specs.declared.state.Job.{Job}
 use Rattle.nor_driver.specs.declared.state.Running.{Running}
 use Rattle.nor_driver.specs.declared.state.SpiNorFlash.{SpiNorFlash}
 use Rattle.nor_driver.specs.declared.state.Stepped.{Stepped}
-use Rattle.nor_runs.specs.Program.{Left}
 use Rattle.nor_runs.specs.Run.{begunAs, steppedAs, isRunning, norDriver}
 use Rattle.nor_runs.proofs.Places.{thenAs, opens, norParts}
 

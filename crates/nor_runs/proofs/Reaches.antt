@@ -265,21 +265,21 @@ ends flash Call.UniqueId b given bounds s h c = (_, ends-bind _ (ends-unique-id 
 ends flash Call.QuadEnabled b given bounds s h c = (_, ends-bind _ (ends-quad-enabled given) ends-ret)
 ends flash Call.EnableQuad b given bounds s h c = (_, ends-then (ends-enable-quad given) ends-ret)
 ends flash Call.DisableQuad b given bounds s h c = (_, ends-then (ends-disable-quad given) ends-ret)
-ends flash (Call.Read offset) b given bounds s h c = (_, ends-then (ends-read given flash bounds offset b (read-passed flash offset b _ h)) ends-ret)
+ends flash (Call.Read offset) b given bounds s h c = (_, ends-then (ends-read given flash bounds offset b (read-passed flash _ offset b h)) ends-ret)
 ends flash (Call.Write offset) b given bounds s h c =
     let some = deviceBounds .accepted (flash .device) bounds .leastPage in
-    let p = write-passed flash offset (length given) _ h in
+    let p = write-passed flash _ offset (length given) h in
     let r = in-range (flash .device .capacity) offset (length given) (p .0) in
     (_, ends-eq (omega arith) (ends-then (ends-write given flash bounds some s offset (length given) refl r (p .1) (p .2)) ends-ret))
 ends flash Call.Unprotect b given bounds s h c = (_, ends-bind _ (ends-unprotect given) ends-ret)
 ends flash (Call.Erase from to) b given bounds s h c =
-    let p = erase-passed flash from to _ h in
+    let p = erase-passed flash _ from to h in
     (_, ends-eq (omega arith) (ends-then (ends-erase given flash bounds from to (p .0) (p .1) (p .2) (p .3)) ends-ret))
 ends flash (Call.EraseSector offset) b given bounds s h c =
-    let p = unit-passed flash EraseKind.Sector offset _ h in
+    let p = unit-passed flash _ EraseKind.Sector offset h in
     (_, ends-then (ends-unit given flash bounds EraseKind.Sector offset (p .0) (p .1)) ends-ret)
 ends flash (Call.EraseBlock offset) b given bounds s h c =
-    let p = unit-passed flash EraseKind.Block offset _ h in
+    let p = unit-passed flash _ EraseKind.Block offset h in
     (_, ends-then (ends-unit given flash bounds EraseKind.Block offset (p .0) (p .1)) ends-ret)
 
 pub reached : (flash : Setup) (call : Call) (b : ℕ) (given : List ℕ) → Bounds norDriver flash call b (length given) → AllBytes given → Asks (programOf flash call b (length given)) →
