@@ -7,3 +7,4 @@ pub mod Bounds
 pub mod Ends
 pub mod Reaches
 pub mod ProgramBounds
+pub mod SeenCalls
