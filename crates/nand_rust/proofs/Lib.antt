@@ -8,3 +8,4 @@ pub mod Ends
 pub mod Reaches
 pub mod ProgramBounds
 pub mod SeenCalls
+pub mod SeenRead

@@ -121,8 +121,11 @@ module _ (R : List ℕ → List ReadByte → List ℕ → Bool → Type 0) where
   abbrev pub To : {A : Type 0} → Sights → Sights → Prog A → Type 0
   To y z p = Shows watcher Q (λ a x. x ≡ y) z p
 
+  pub from : {A : Type 0} {E : A → Sights → Type 0} {y z : Sights} {p : Prog A} → y ≡ z → Sees E z p → Sees E y p
+  from {E = E} {p = p} e h = subst (λ s. Sees E s p) (sym e) h
+
   pub to-then : {A B : Type 0} {E : B → Sights → Type 0} {y z : Sights} {p : Prog A} {q : Prog B} → To y z p → Sees E y q → Sees E z (p >> q)
-  to-then {E = E} {q = q} h k = shows-then watcher Q h (λ a x e. subst (λ s. Sees E s q) (sym e) k)
+  to-then h k = shows-then watcher Q h (λ a x e. from e k)
 
   module _ (t : Tally) (q : Right t) where
     pause : (mine : Bool) (load : Load) (us : ℕ) → To (at mine load t) (at mine load t) (transfer (Transfer.Pause us))
@@ -207,13 +210,13 @@ module _ (R : List ℕ → List ReadByte → List ℕ → Bool → Type 0) where
 
     cache : (quad : QuadSetting) → Sees Read (at false (judged page) t) (transfer (cacheReadAt quad column n (Sink.Buffer place)))
     cache QuadSetting.Single =
-        let from = column-exact column small in
+        let exact = column-exact column small in
         shows-transfer watcher Q (cacheReadAt QuadSetting.Single column n (Sink.Buffer place))
-        (q, (q, ((q, q), (q, ((none, none), (λ new given e. rw (from, behind-mine (t .bytes) new) (more new e, (more new e, (new, e, refl)))))))))
+        (q, (q, ((q, q), (q, ((none, none), (λ new given e. rw (exact, behind-mine (t .bytes) new) (more new e, (more new e, (new, e, refl)))))))))
     cache (QuadSetting.Quad quad) =
-        let from = column-exact column small in
+        let exact = column-exact column small in
         shows-transfer watcher Q (cacheReadAt (QuadSetting.Quad quad) column n (Sink.Buffer place))
-        (q, (q, ((none, none), (λ new given e. rw (from, behind-mine (t .bytes) new) (more new e, (more new e, (new, e, refl)))))))
+        (q, (q, ((none, none), (λ new given e. rw (exact, behind-mine (t .bytes) new) (more new e, (more new e, (new, e, refl)))))))
 
     pub reading-cache : (flash : Setup) → Sees Read (at false (judged page) t) (read-cache flash column n (Sink.Buffer place))
     unfolding read-cache cacheReadTransfer
