@@ -9,3 +9,5 @@ pub mod Reaches
 pub mod ProgramBounds
 pub mod SeenCalls
 pub mod SeenRead
+pub mod LeastDelay
+pub mod SeenRuns

@@ -3,7 +3,7 @@ use Prim.Native.Nat.{ℕ, zero, suc, _+_, _-_, _*_, _/_, _%_, _≤_, _<_}
 use native.Mathlib.Omega.{arith}
 use native.Mathlib.Nat.{zero-add, add-zero, mod-lt, mod-eq-of-lt, mul-add-mod-self-right, div-add-mod', div-eq-of-lt-le, le-div-iff-mul-le}
 use native.Mathlib.Numerals.{add-one}
-use mathlib.Core.Bool.{Bool, true, false}
+use mathlib.Core.Bool.{Bool, true, false, not, Bool·not-not}
 use mathlib.Core.Path.{_≡_, refl, ap, ap₂, sym, _∙_, subst}
 use mathlib.Core.List.{List, [], _∷_, _++_, append-assoc}
 use lib.ListN.{length, length-append}
@@ -235,3 +235,18 @@ module _ (flash : Setup) (bounds : inBounds (flash .geometry) ≡ true) (offset 
         by-cases (ltb done len)
         (λ e. rw e (turn fuel (loops fuel) done i mine load verdicts bytes enough (ltb-true done len e) stands))
         (λ e. rw e (ended done i mine load verdicts bytes (ltb-false done len e) stands))
+
+  -- ---- the call
+
+  abbrev pub start : Sights
+  start = at false unloaded (tally 0 [] [])
+
+  pub read-shows : Sees Sound (λ u y. Whole y) start (read flash offset len)
+  unfolding read reading
+  read-shows =
+      shows-then watcher (Q Sound)
+      {E = λ u y. (inRange g offset len ≡ true) × (y ≡ start)}
+      (shows-refuse watcher (Q Sound) (not (inRange g offset len)) _ (λ e. (sym (Bool·not-not _) ∙ ap not e, refl)))
+      (λ u y h. let within = in-range g bounds offset len (h .0) in
+      from Sound (h .1) (loops within (len - 0) 0 0 false unloaded [] [] (omega arith)
+      (record { most = omega arith; counts = omega (arith, pages-first g bounds offset len within); size = refl; judges = refl; good = tt })))
