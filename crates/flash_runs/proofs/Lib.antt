@@ -1,5 +1,6 @@
 pub mod General
 pub mod Filling
+pub mod Quiet
 pub mod Buffer
 pub mod Supplies
 pub mod Steps

@@ -6,3 +6,5 @@ pub mod Construction
 pub mod Openings
 pub mod Opens
 pub mod Is
+pub mod Lent
+pub mod Promises
