@@ -14,3 +14,7 @@ pub mod Delivered
 pub mod Bills
 pub mod Lent
 pub mod Promises
+pub mod Watching
+pub mod WatchedRuns
+pub mod Watchers
+pub mod Least

@@ -2,3 +2,5 @@ pub mod Rust
 pub mod Program
 pub mod Bound
 pub mod ProgramBounds
+pub mod Observer
+pub mod ReadSeen
