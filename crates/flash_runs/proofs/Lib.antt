@@ -1,7 +1,9 @@
 pub mod General
 pub mod Filling
+pub mod Quiet
 pub mod Buffer
 pub mod Supplies
+pub mod Asking
 pub mod Steps
 pub mod Runs
 pub mod Views
@@ -12,3 +14,7 @@ pub mod Delivered
 pub mod Bills
 pub mod Lent
 pub mod Promises
+pub mod Watching
+pub mod WatchedRuns
+pub mod Watchers
+pub mod Least

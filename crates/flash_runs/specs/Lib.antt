@@ -2,3 +2,4 @@ pub mod Driver
 pub mod Reading
 pub mod SameAsRust
 pub mod Promises
+pub mod Watch

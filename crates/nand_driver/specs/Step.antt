@@ -15,7 +15,7 @@ use Rattle.spi_flash.specs.declared.loan.Takes.{Takes}
 use Rattle.nand_next.specs.Next.{nextOf}
 use Rattle.nand_answers.specs.declared.answer.Answer.{Answer}
 use Rattle.nand_phases.specs.declared.setup.Setup.{Setup}
-use Rattle.nand_next.specs.declared.then.Then.{Then}
+use Rattle.nand_steps.specs.declared.then.Then.{Then}
 use Rattle.nand_driver.specs.declared.state.Given.{Given}
 use Rattle.nand_driver.specs.declared.state.Job.{Job}
 use Rattle.nand_driver.specs.declared.state.Running.{Running}

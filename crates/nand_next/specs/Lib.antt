@@ -1,5 +1,2 @@
-pub mod Go
-pub mod Register
-pub mod Page
 pub mod Next
-pub mod Call
+pub mod Opening

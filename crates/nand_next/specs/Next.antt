@@ -22,10 +22,14 @@ use Rattle.nand_phases.specs.declared.phase.ResetFor.{ResetFor}
 use Rattle.nand_phases.specs.declared.phase.Task.{Task}
 use Rattle.nand_phases.specs.declared.phase.Within.{Within}
 use Rattle.nand_phases.specs.declared.setup.Setup.{Setup}
-use Rattle.nand_next.specs.Go.{goTo, endWith, done, ask, askId, look, send}
-use Rattle.nand_next.specs.Register.{idOf, identifiedThen, configureThen, checkConfiguration, unprotectThen, broughtUp, disableQuad, quadDisabled, writtenThen}
-use Rattle.nand_next.specs.Page.{loadDataThen, loadedThen, judgedThen, programThen, programmedThen, comparedThen, markerThen, erasedThen}
-use Rattle.nand_next.specs.declared.then.Then.{Then}
+use Rattle.nand_steps.specs.Go.{goTo, endWith, done, ask, askId, look, send}
+use Rattle.nand_steps.specs.Cache.{loadProgramThen, comparedThen}
+use Rattle.nand_steps.specs.Block.{erasedThen, markerThen, fillFrom, filledThen, markThen}
+use Rattle.nand_steps.specs.Read.{pieceReadThen}
+use Rattle.qspi.specs.declared.transfer.Payload.{Payload}
+use Rattle.nand_steps.specs.Register.{idOf, identifiedThen, configureThen, checkConfiguration, unprotectThen, broughtUp, disableQuad, quadDisabled, writtenThen}
+use Rattle.nand_steps.specs.Page.{loadedThen, judgedThen, programThen, programmedThen}
+use Rattle.nand_steps.specs.declared.then.Then.{Then}
 
 -- buffer[0] of a register's one byte
 abbrev pub byteOf : ℕ → ℕ
@@ -36,8 +40,9 @@ byteOf v = v % 256
 unfoldable pub enabledThen : Setup → EnableFor → Then
 enabledThen setup EnableFor.Call = done setup
 enabledThen setup (EnableFor.Register register value why) = send setup (setFeatureCommand register value) (Task.Register why)
-enabledThen setup (EnableFor.WritePage page) = loadDataThen setup 0 (setup .geometry .«page_size») (Phase.LoadingPage page)
-enabledThen setup (EnableFor.Erase block) = send setup (blockEraseCommand (firstPageOf (setup .geometry) block)) Task.Erase
+enabledThen setup (EnableFor.WritePage page) = loadProgramThen setup 0 (Payload.Data 0 (setup .geometry .«page_size»)) (Phase.LoadingPage page)
+enabledThen setup (EnableFor.Erase block why) = send setup (blockEraseCommand (firstPageOf (setup .geometry) block)) (Task.Erase why)
+enabledThen setup (EnableFor.MarkBad block) = fillFrom setup block 0
 
 unfoldable pub latchedThen : Setup → EnableFor → Status → Then
 latchedThen setup why status = pick (writeEnabledOf status) (enabledThen setup why) (Then.Fail FlashError.WriteEnableFailed)
@@ -53,7 +58,7 @@ resumeTask setup (Task.Reset why) = resetThen setup why
 resumeTask setup (Task.Register why) = writtenThen setup why
 resumeTask setup (Task.Load why) = loadedThen setup why
 resumeTask setup (Task.Program why) = ask setup REG-STATUS (Asked.Programmed why)
-resumeTask setup Task.Erase = ask setup REG-STATUS Asked.Erased
+resumeTask setup (Task.Erase why) = ask setup REG-STATUS (Asked.Erased why)
 
 unfoldable pub waitThen : Setup → Task → Wait → Then
 waitThen setup task Wait.Look = look setup (Phase.Looking task 0)
@@ -80,7 +85,7 @@ answeredThen setup Asked.DisableQuad v = disableQuad setup (configurationOf (byt
 answeredThen setup Asked.QuadDisabled v = quadDisabled setup (configurationOf (byteOf v))
 answeredThen setup (Asked.Verdict why) v = judgedThen setup why (statusOf (byteOf v))
 answeredThen setup (Asked.Programmed why) v = programmedThen setup why (statusOf (byteOf v))
-answeredThen setup Asked.Erased v = erasedThen setup (statusOf (byteOf v))
+answeredThen setup (Asked.Erased why) v = erasedThen setup why (statusOf (byteOf v))
 
 -- ---- what follows a transfer that gave v
 
@@ -95,9 +100,12 @@ afterPhase setup (Phase.Looking task waited) v =
 afterPhase setup (Phase.Pausing task waited) v = look setup (Phase.Looking task waited)
 afterPhase setup Phase.ReadingCache v = done setup
 afterPhase setup Phase.Comparing v = comparedThen setup v
-afterPhase setup Phase.ReadingMarker v = markerThen setup (byteOf v)
+afterPhase setup (Phase.ReadingMarker why) v = markerThen setup why (byteOf v)
+afterPhase setup (Phase.Reading offset n before) v = pieceReadThen setup offset n before
 afterPhase setup Phase.LoadingData v = done setup
 afterPhase setup (Phase.LoadingPage page) v = programThen setup page (ProgramFor.WritePage page)
+afterPhase setup (Phase.LoadingFiller block column) v = filledThen setup block column
+afterPhase setup (Phase.LoadingMarker block) v = markThen setup block
 
 unfoldable pub nextOf : Setup → Phase → Outcome → Then
 nextOf setup phase (Outcome.Value v) = afterPhase setup phase v

@@ -44,7 +44,8 @@ use Rattle.nand_steps.specs.Read.{readFrom, readThen}
 use Rattle.nand_steps.specs.Block.{isBad, eraseThen, afterErase, erasedThen, markerThen, fillFrom}
 use Rattle.nand_steps.specs.declared.then.Then.{Then}
 use Rattle.nand_next.specs.Next.{enabledThen, latchedThen, resetThen, resumeTask, waitThen, identifyThen, answeredThen, afterPhase, nextOf}
-use Rattle.nand_runs.proofs.Places.{decide, Valid}
+use Rattle.flash_runs.proofs.Supplies.{Stays}
+use Rattle.nand_runs.proofs.Places.{thenAs, decide, Valid}
 
 -- ---- the phases of a construction are told by what they are within
 
@@ -435,12 +436,7 @@ OnlyCalls Within.BringUp = ⊥
 abbrev pub Built : Phase → Type 0
 Built phase = OkPhase OnlyCalls phase
 
-abbrev pub Stays : Setup → Then → Type 0
-Stays s (Then.Go setup t phase) = (setup ≡ s) × Built phase
-Stays s (Then.End setup answer) = setup ≡ s
-Stays s (Then.Fail error) = Unit {0}
-
-pub stays : (s : Setup) → Passes OnlyCalls (λ setup. setup ≡ s) (Stays s)
+pub stays : (s : Setup) → Passes OnlyCalls (λ setup. setup ≡ s) (λ x. Stays Built s (thenAs x))
 stays s = record {
   go = λ setup t phase i h. (i, h);
   end = λ setup answer i. i;
@@ -451,7 +447,7 @@ stays s = record {
   after = λ setup c h i. absurd h;
 }
 
-pub stays-next : (s : Setup) (phase : Phase) (o : Outcome) → Built phase → Stays s (nextOf s phase o)
+pub stays-next : (s : Setup) (phase : Phase) (o : Outcome) → Built phase → Stays Built s (thenAs (nextOf s phase o))
 unfolding nextOf
 stays-next s phase (Outcome.Value v) h = keeps-phase (stays s) s refl phase v h
 stays-next s phase (Outcome.Failed code) h = tt

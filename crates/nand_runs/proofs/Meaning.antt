@@ -37,7 +37,7 @@ use Rattle.nand_steps.specs.Register.{geometryFor}
 use Rattle.nand_rust.specs.Rust.{Nothing, MAX-VERIFY-PAGE-SIZE, id-of, wanted-of, uncorrectable, read-status, read-configuration, read-protection, wait-ready, write-enable, write-register, reset, jedec-id, read-cache, load-program-data, program-execute, read-page, erase-block, reading, is-bad-block, filling}
 use Rattle.flash_runs.specs.Driver.{leaving}
 use Rattle.nand_rust.specs.Program.{Left}
-use Rattle.nand_runs.proofs.Places.{Place}
+use Rattle.nand_runs.proofs.Places.{NandPlace}
 
 abbrev pub DONE : Setup → Prog Left
 DONE s = ret (leaving s Answer.Done)
@@ -247,5 +247,5 @@ meaningAt s (Phase.LoadingPage page) v = program-page s page
 meaningAt s (Phase.LoadingFiller block column) v = fill-on s block (column + fillerOf (s .geometry) column)
 meaningAt s (Phase.LoadingMarker block) v = program-on s block
 
-abbrev pub meaning : Place → ℕ → Prog Left
+abbrev pub meaning : NandPlace → ℕ → Prog Left
 meaning s v = meaningAt (s .setup) (s .phase) v

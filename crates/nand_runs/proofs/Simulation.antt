@@ -57,7 +57,8 @@ use Rattle.nand_rust.specs.Rust.{Nothing, MAX-VERIFY-PAGE-SIZE, quad-wanted, wa
 use Rattle.nand_rust.specs.Program.{Left}
 use Rattle.nand_rust.proofs.ReadLoop.{reading-loop}
 use Rattle.nand_rust.proofs.FillLoop.{filling-loop}
-use Rattle.nand_runs.proofs.Places.{Place, place, decide, decideNext, Valid}
+use Rattle.flash_runs.proofs.General.{place, decideNext}
+use Rattle.nand_runs.proofs.Places.{parts, decide, Valid}
 use Rattle.nand_runs.proofs.Keeps.{keeps}
 use Rattle.nand_runs.proofs.Meaning.{DONE, latch, compared, bad, confirmed, confirm, program-on, marker-on, fill-on, mark-on, marker-read, verify-on, program-page, read-on, accepted, judged, loaded, after-program, programmed, after-erase, erased, brought-up, unprotected, unprotect-on, configured, check-configured, configure-on, check-disabled, disable-on, written, identified, identify, reset-done, resumed, enabled, looked, answered, meaningAt, meaning}
 
@@ -75,12 +76,12 @@ then-assoc p q r = bind-assoc p (λ a. q) (λ b. r)
 
 -- ---- the cache
 
-reads-cache : (s : Setup) (column n : ℕ) (sink : Sink) (phase : Phase) (f : ℕ → Prog Left) → f ≡ meaning (place s phase) →
+pub reads-cache : (s : Setup) (column n : ℕ) (sink : Sink) (phase : Phase) (f : ℕ → Prog Left) → f ≡ meaning (place s phase) →
     read-cache s column n sink >>= f ≡ tree meaning (decide (readCacheThen s column n sink phase))
 unfolding read-cache readCacheThen refuse _>>=_ _>>_
 reads-cache s column n sink phase f e = rw e (by-cases (inCache (s .geometry) column n) (λ h. rw h) (λ h. rw h))
 
-loads-cache : (s : Setup) (column n : ℕ) (payload : Payload) (phase : Phase) (p : Prog Left) → ((v : ℕ) → meaning (place s phase) v ≡ p) →
+pub loads-cache : (s : Setup) (column n : ℕ) (payload : Payload) (phase : Phase) (p : Prog Left) → ((v : ℕ) → meaning (place s phase) v ≡ p) →
     load-program-data s column n payload >> p ≡
     tree meaning (decide (pick (inCache (s .geometry) column n) (Then.Go s (cacheLoadTransfer (s .config) column payload) phase) (Then.Fail FlashError.OutOfBounds)))
 unfolding load-program-data refuse _>>=_ _>>_
@@ -91,12 +92,12 @@ loads-cache s column n payload phase p e =
 
 -- ---- a command and its wait
 
-sends : (s : Setup) (c : Command) (task : Task) → (transfer (Transfer.Send c) >> wait-ready (taskOperation task)) >> resumed s task
+pub sends : (s : Setup) (c : Command) (task : Task) → (transfer (Transfer.Send c) >> wait-ready (taskOperation task)) >> resumed s task
     ≡ tree meaning (more (Transfer.Send c) (place s (Phase.Sending task)))
 unfolding meaningAt _>>=_ _>>_
 sends s c task = refl
 
-enables : (s : Setup) (why : EnableFor) → write-enable >> enabled s why ≡ tree meaning (more (Transfer.Send writeEnableCommand) (place s (Phase.Enabling why)))
+pub enables : (s : Setup) (why : EnableFor) → write-enable >> enabled s why ≡ tree meaning (more (Transfer.Send writeEnableCommand) (place s (Phase.Enabling why)))
 unfolding write-enable meaningAt latch _>>=_ _>>_
 enables s why = refl
 
@@ -144,11 +145,11 @@ within-is false x = refl
 
 module _ (s : Setup) where
   -- a status and its test, with what follows
-  status-then : (check : Status → Prog Nothing) (p : Prog Left) → (read-status >>= check) >> p ≡ read-status >>= (λ status. check status >> p)
+  pub status-then : (check : Status → Prog Nothing) (p : Prog Left) → (read-status >>= check) >> p ≡ read-status >>= (λ status. check status >> p)
   unfolding _>>_
   status-then check p = bind-assoc read-status check (λ u. p)
 
-  page-reads : (page : ℕ) (why : LoadFor) → loaded s why ≡ read-status >>= judged s why → page-read s page >> accepted s why ≡ tree meaning (decide (pageReadThen s page why))
+  pub page-reads : (page : ℕ) (why : LoadFor) → loaded s why ≡ read-status >>= judged s why → page-read s page >> accepted s why ≡ tree meaning (decide (pageReadThen s page why))
   unfolding page-read pageReadThen load-page judged taskOperation resumed _>>_
   page-reads page why e =
       tested (ltb page (pageCountOf (s .geometry))) _ (λ u. accepted s why) _
@@ -158,7 +159,7 @@ module _ (s : Setup) where
       ∙ within-is (ltb page (pageCountOf (s .geometry))) (loadThen s page why)
 
   -- is_bad_block, for any reason
-  looks-bad : (block : ℕ) (why : MarkerFor) → is-bad-block s block >>= marker-read s why ≡ tree meaning (decide (isBadThen s block why))
+  pub looks-bad : (block : ℕ) (why : MarkerFor) → is-bad-block s block >>= marker-read s why ≡ tree meaning (decide (isBadThen s block why))
   unfolding is-bad-block isBadThen load-page loaded accepted taskOperation resumed _>>=_ _>>_
   looks-bad block why =
       let first = firstPageOf (s .geometry) block in
@@ -172,7 +173,7 @@ module _ (s : Setup) where
       reread : (spare : Prog ℕ) → spare >>= (λ marker. ret (bad marker) >>= marker-read s why) ≡ spare >>= (λ marker. marker-read s why (bad marker))
       reread spare = refl
 
-  programs : (page : ℕ) (why : ProgramFor) → program-execute s page >> after-program s why ≡ tree meaning (decide (programThen s page why))
+  pub programs : (page : ℕ) (why : ProgramFor) → program-execute s page >> after-program s why ≡ tree meaning (decide (programThen s page why))
   unfolding program-execute programThen programmed taskOperation resumed _>>_
   programs page why =
       let judge : Status → Prog Nothing = λ status. refuse (programFailedOf status) FlashError.ProgramFailed in
@@ -184,7 +185,7 @@ module _ (s : Setup) where
       ∙ sends s (programExecuteCommand page) (Task.Program why))
       ∙ within-is (ltb page (pageCountOf (s .geometry))) (send s (programExecuteCommand page) (Task.Program why))
 
-  erases : (block : ℕ) (why : EraseFor) → erase-block s block >> after-erase s why ≡ tree meaning (decide (eraseThen s block why))
+  pub erases : (block : ℕ) (why : EraseFor) → erase-block s block >> after-erase s why ≡ tree meaning (decide (eraseThen s block why))
   unfolding erase-block eraseThen erased enabled _>>_
   erases block why =
       let judge : Status → Prog Nothing = λ status. refuse (eraseFailedOf status) FlashError.EraseFailed in
@@ -199,7 +200,7 @@ module _ (s : Setup) where
       ∙ within-is (ltb block (s .geometry .«block_count»)) (enable s (EnableFor.Erase block why))
 
 -- write_register and what follows it
-registers : (s : Setup) (register value : ℕ) (why : RegisterFor) → write-register register value >> written s why
+pub registers : (s : Setup) (register value : ℕ) (why : RegisterFor) → write-register register value >> written s why
     ≡ tree meaning (more (Transfer.Send writeEnableCommand) (place s (Phase.Enabling (EnableFor.Register register value why))))
 unfolding write-register enabled
 registers s register value why = then-assoc write-enable _ (written s why) ∙ enables s (EnableFor.Register register value why)
@@ -289,7 +290,7 @@ identifies-within s Within.BringUp id = identifies s id
 
 -- ---- the loops
 
-finishes : (p : Prog Left) → ret (tt {0}) >> p ≡ p
+pub finishes : (p : Prog Left) → ret (tt {0}) >> p ≡ p
 unfolding _>>=_ _>>_
 finishes p = refl
 
@@ -327,7 +328,7 @@ module _ (s : Setup) (valid : inBounds (s .geometry) ≡ true) where
   some : 1 ≤ s .geometry .«page_size»
   some = geometries-hold .bounded (s .geometry) valid .page
 
-  reads-on : (offset len done : ℕ) → read-on s offset len done ≡ tree meaning (decide (readFrom s offset len done))
+  pub reads-on : (offset len done : ℕ) → read-on s offset len done ≡ tree meaning (decide (readFrom s offset len done))
   unfolding read-on readFrom accepted loaded
   reads-on offset len done =
       let page = pageAt (s .geometry) (placeOf offset done) in
@@ -472,7 +473,7 @@ module _ (s : Setup) (valid : inBounds (s .geometry) ≡ true) where
   follows (Phase.LoadingFiller block column) v = fills-on s block (column + fillerOf (s .geometry) column)
   follows (Phase.LoadingMarker block) v = programs s (firstPageOf (s .geometry) block) (ProgramFor.MarkBad block)
 
-pub simulates : Simulates Valid decideNext meaning
+pub simulates : Simulates Valid (decideNext parts) meaning
 unfolding nextOf
 simulates = record {
   onValue = λ s v valid. follows (s .setup) valid (s .phase) v;

@@ -8,3 +8,7 @@ pub mod Ends
 pub mod Reaches
 pub mod ProgramBounds
 pub mod Begins
+pub mod SeenCalls
+pub mod SeenRead
+pub mod LeastDelay
+pub mod SeenRuns

@@ -99,11 +99,11 @@ module _ (g : NandGeometry) (bounds : inBounds g ≡ true) where
 
   -- ---- the pages that are left
 
-  no-pages : (offset len : ℕ) → len ≡ 0 → pagesTouched g offset len ≡ 0
+  pub no-pages : (offset len : ℕ) → len ≡ 0 → pagesTouched g offset len ≡ 0
   unfolding pagesTouched
   no-pages offset len z = rw z
 
-  from-to : (offset len : ℕ) → 1 ≤ len → pagesTouched g offset len ≡ lastTouched g offset len - firstTouched g offset + 1
+  pub from-to : (offset len : ℕ) → 1 ≤ len → pagesTouched g offset len ≡ lastTouched g offset len - firstTouched g offset + 1
   unfolding pagesTouched
   from-to offset len least = rw (ne-eqb len 0 (λ z. omega arith))
 

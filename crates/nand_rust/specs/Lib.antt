@@ -3,3 +3,4 @@ pub mod Program
 pub mod Bound
 pub mod ProgramBounds
 pub mod Observer
+pub mod ReadSeen

@@ -21,7 +21,7 @@ use Rattle.spi_flash.specs.declared.loan.Takes.{Takes}
 use Rattle.spi_flash.specs.declared.wait.Timings.{Timings}
 use Rattle.spi_flash.specs.Loan.{Lent}
 use Rattle.spi_flash.specs.Prog.{Prog, ask}
-use Rattle.spi_flash.specs.WaitLaw.{waitLoop, waiting, promptWait}
+use Rattle.spi_flash.specs.WaitLaw.{waitLoop, waiting, delayedWait, promptWait}
 use Rattle.spi_flash.specs.Path.{Bounded}
 use Rattle.spi_flash.specs.Run.{Event, reply, call, Moved, goesOn}
 use Rattle.spi_flash.specs.Machine.{Decision, more, well, bad, Config, out, rest, lentAs, settle, moved, machine, tree, Onward, Simulates}
@@ -61,6 +61,10 @@ module _ (status : Command) (busy : ℕ → Bool) (t : Timings) where
   pub unread-wait : Bounded bufferReads 0 (promptWait status busy t)
   unfolding promptWait waiting
   unread-wait = unread-loop _ 0
+
+  pub unread-delayed : Bounded bufferReads 0 (delayedWait status busy t)
+  unfolding delayedWait waiting
+  unread-delayed = bounded-more (omega arith) (bounded-then {b = 0} {c = 0} bounded-transfer (unread-loop _ _))
 
 -- ---- the buffer in one step
 

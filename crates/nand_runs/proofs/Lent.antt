@@ -1,0 +1,192 @@
+-- What each call does with the caller's buffer: read, read_page and read_cache fill it place after place, no other call reads into it.
+use Prim.Native.Nat.{ℕ, zero, suc, _+_, _-_, _≤_, _<_}
+use native.Mathlib.Omega.{arith}
+use mathlib.Core.Bool.{Bool, true, false, not}
+use mathlib.Core.Path.{_≡_, refl}
+use lib.Dec.{ltb, eqb}
+use borrow.Author.Tests.{ltb-true, le-ltb}
+use Rattle.qspi.specs.declared.command.Command.{Command}
+use Rattle.qspi.specs.declared.transfer.Payload.{Payload}
+use Rattle.qspi.specs.declared.transfer.Sink.{Sink}
+use Rattle.qspi.specs.declared.transfer.Transfer.{Transfer}
+use Rattle.qspi.proofs.Cases.{by-cases}
+use Rattle.spi_flash.specs.Path.{Bounded}
+use Rattle.spi_flash.specs.Prog.{Prog, ret, fail, ask, _>>=_, _>>_, refuse, transfer}
+use Rattle.spi_flash.specs.WaitLaw.{delayedWait}
+use Rattle.spi_flash.specs.declared.error.FlashError.{FlashError}
+use Rattle.spi_flash.proofs.Laws.{bounded-more, bounded-ret, answered, ended}
+use Rattle.spi_flash.proofs.Unread.{bufferReads, unread-delayed}
+use Rattle.flash_runs.specs.Driver.{leaving, takesOf}
+use Rattle.flash_runs.proofs.Filling.{Fills}
+use Rattle.flash_runs.proofs.Quiet.{Quiet, quiet-bind, quiet-then, quiet-refuse, quiet-ret, quiet-transfer, quiet-wait, fills-after}
+use Rattle.flash_runs.proofs.Supplies.{Bounds, LendsAs}
+use Rattle.spi_nand.specs.Command.{getFeatureCommand}
+use Rattle.spi_nand.specs.Config.{inBounds, pageCountOf, singleConfig}
+use Rattle.spi_nand.specs.Opcode.{REG-STATUS, timingsOf}
+use Rattle.spi_nand.specs.Status.{busyValue, verdictOf}
+use Rattle.spi_nand.specs.declared.config.QuadSetting.{QuadSetting}
+use Rattle.spi_nand.specs.declared.config.SpiNandConfig.{SpiNandConfig}
+use Rattle.spi_nand.specs.declared.opcode.Operation.{Operation}
+use Rattle.spi_nand.proofs.Geometries.{geometries-hold}
+use Rattle.nand_answers.specs.declared.answer.Answer.{Answer}
+use Rattle.nand_phases.specs.Transfer.{registerTransfer, cacheReadAt, cacheReadTransfer, cacheLoadAt, inCache, inRange, placeOf, pageAt, columnAt, chunkOf}
+use Rattle.nand_phases.proofs.Pieces.{chunk-within}
+use Rattle.nand_phases.specs.declared.call.Call.{Call}
+use Rattle.nand_phases.specs.declared.setup.Setup.{Setup}
+use Rattle.nand_rust.specs.Rust.{uncorrectable, read-status, wait-ready, load-page, page-read, read-cache, read-page, reading, read}
+use Rattle.nand_rust.specs.Program.{Left, pageTaken, rustProgram, programOf}
+use Rattle.nand_rust.proofs.ReadLoop.{chunk-some, reading-loop}
+use Rattle.nand_rust.proofs.Weights.{taking, Weighs, bounded-status, bounded-configuration, bounded-protection, bounded-enable, bounded-write-register, bounded-disable-quad, bounded-reset, bounded-jedec-id, bounded-identify, bounded-ensure, bounded-unprotect, bounded-page-read, bounded-load-data, bounded-execute, bounded-write-page, bounded-erase, bounded-is-bad, bounded-mark, bounded-with-config, bounded-refused-page}
+use Rattle.nand_runs.specs.Run.{sortOf, readsCache, nandDriver}
+use Rattle.nand_runs.proofs.Places.{parts, Valid}
+use Rattle.nand_runs.proofs.Keeps.{Built}
+use Rattle.nand_runs.proofs.Meaning.{DONE, meaning}
+use Rattle.nand_runs.proofs.Simulation.{bind-assoc}
+
+-- ---- no other call reads into the buffer
+
+unread-figures : Weighs bufferReads 0 0 1 (λ operation. 0)
+unfolding wait-ready
+unread-figures = record {
+  sent = λ c. omega arith;
+  number = λ c n. omega arith;
+  taken = taken;
+  loaded = loaded;
+  waited = λ operation. unread-delayed (getFeatureCommand REG-STATUS) busyValue (timingsOf operation);
+}
+  where
+    taken : (q : QuadSetting) (column n : ℕ) (sink : Sink) → bufferReads (cacheReadAt q column n sink) ≤ taking 0 1 sink
+    taken QuadSetting.Single column n Sink.Number = omega arith
+    taken QuadSetting.Single column n (Sink.Buffer at) = omega arith
+    taken QuadSetting.Single column n (Sink.Compare from) = omega arith
+    taken (QuadSetting.Quad q) column n Sink.Number = omega arith
+    taken (QuadSetting.Quad q) column n (Sink.Buffer at) = omega arith
+    taken (QuadSetting.Quad q) column n (Sink.Compare from) = omega arith
+
+    loaded : (q : QuadSetting) (column : ℕ) (payload : Payload) → bufferReads (cacheLoadAt q column payload) ≤ 0
+    loaded QuadSetting.Single column payload = omega arith
+    loaded (QuadSetting.Quad q) column payload = omega arith
+
+construction-unread : (s : Setup) (config : SpiNandConfig) (b d : ℕ) → Bounded bufferReads 0 (programOf s (Call.WithConfig config) b d)
+unfolding rustProgram
+construction-unread s config b d =
+    by-cases (pageTaken (config .geometry))
+    (λ e. rw e (answered _ (omega arith) (bounded-with-config unread-figures 0 (omega arith) config)))
+    (λ e. rw e (bounded-more (omega arith) (bounded-refused-page unread-figures 0 (omega arith))))
+
+-- ---- a load asks for registers alone
+
+quiet-status : Quiet readsCache read-status
+unfolding read-status
+quiet-status = quiet-bind readsCache (quiet-bind readsCache (quiet-transfer readsCache refl) (λ v. quiet-ret readsCache)) (λ byte. quiet-ret readsCache)
+
+module _ (s : Setup) where
+  quiet-page-read : (page : ℕ) → Quiet readsCache (page-read s page)
+  unfolding page-read load-page wait-ready
+  quiet-page-read page =
+      quiet-then readsCache (quiet-refuse readsCache (not (ltb page (pageCountOf (s .geometry)))) FlashError.OutOfBounds)
+      (quiet-then readsCache
+      (quiet-then readsCache (quiet-transfer readsCache tt) (quiet-wait readsCache (getFeatureCommand REG-STATUS) busyValue (timingsOf Operation.PageRead) refl))
+      (quiet-bind readsCache quiet-status (λ status. quiet-refuse readsCache (uncorrectable (verdictOf status)) FlashError.UncorrectableEcc)))
+
+  -- ---- the cache into the buffer
+
+  module _ (len n : ℕ) where
+    fills-at : (q : QuadSetting) (column m : ℕ) (f : ℕ → Prog Left) → n + m ≤ len → ((v : ℕ) → Fills readsCache len (n + m) (f v)) →
+        Fills readsCache len n (transfer (cacheReadAt q column m (Sink.Buffer n)) >>= f)
+    unfolding _>>=_
+    fills-at QuadSetting.Single column m f room later = (refl, refl, room, later)
+    fills-at (QuadSetting.Quad q) column m f room later = (refl, refl, room, later)
+
+    fills-read-cache : (column m : ℕ) (f : ℕ → Prog Left) → n + m ≤ len → ((v : ℕ) → Fills readsCache len (n + m) (f v)) →
+        Fills readsCache len n (read-cache s column m (Sink.Buffer n) >>= f)
+    unfolding read-cache refuse cacheReadTransfer _>>=_ _>>_
+    fills-read-cache column m f room later =
+        by-cases (inCache (s .geometry) column m) (λ e. rw e (fills-at (s .config .quad) column m f room later)) (λ e. rw e tt)
+
+  fills-cache : (column b : ℕ) → Fills readsCache b 0 (read-cache s column b (Sink.Buffer 0) >> DONE s)
+  unfolding _>>_
+  fills-cache column b = fills-read-cache b 0 column b (λ v. DONE s) (omega arith) (λ v. tt)
+
+  fills-page : (page b : ℕ) → Fills readsCache b 0 (read-page s page b (Sink.Buffer 0) >> DONE s)
+  unfolding read-page refuse _>>=_ _>>_
+  fills-page page b =
+      by-cases (eqb b (s .geometry .«page_size»))
+      (λ e. rw e (paged page b))
+      (λ e. rw e tt)
+    where
+      paged : (page b : ℕ) → Fills readsCache b 0 ((page-read s page >>= (λ u. read-cache s 0 b (Sink.Buffer 0))) >>= (λ v. DONE s))
+      paged page b = rw (bind-assoc (page-read s page) (λ u. read-cache s 0 b (Sink.Buffer 0)) (λ v. DONE s))
+          (fills-after readsCache b 0 (page-read s page) (λ u. read-cache s 0 b (Sink.Buffer 0) >>= (λ v. DONE s)) (quiet-page-read page)
+          (λ u. fills-read-cache b 0 0 b (λ v. DONE s) (omega arith) (λ v. tt)))
+
+  module _ (valid : inBounds (s .geometry) ≡ true) (offset len : ℕ) where
+    some : 1 ≤ s .geometry .«page_size»
+    some = geometries-hold .bounded (s .geometry) valid .page
+
+    abbrev next : ℕ → ℕ
+    next done = done + chunkOf (s .geometry) offset len done
+
+    fills-piece : (done : ℕ) → next done ≤ len → Fills readsCache len (next done) (reading s offset len (next done) >> DONE s) →
+        Fills readsCache len done
+        ((page-read s (pageAt (s .geometry) (placeOf offset done))
+        >> (read-cache s (columnAt (s .geometry) (placeOf offset done)) (chunkOf (s .geometry) offset len done) (Sink.Buffer done) >> reading s offset len (next done)))
+        >> DONE s)
+    unfolding _>>_
+    fills-piece done room later =
+        let page = pageAt (s .geometry) (placeOf offset done) in
+        let piece = read-cache s (columnAt (s .geometry) (placeOf offset done)) (chunkOf (s .geometry) offset len done) (Sink.Buffer done) in
+        rw (bind-assoc (page-read s page) (λ u. piece >>= (λ v. reading s offset len (next done))) (λ u. DONE s), bind-assoc piece (λ v. reading s offset len (next done)) (λ u. DONE s))
+        (fills-after readsCache len done (page-read s page) (λ u. piece >>= (λ v. reading s offset len (next done) >>= (λ w. DONE s))) (quiet-page-read page)
+        (λ u. fills-read-cache len done (columnAt (s .geometry) (placeOf offset done)) (chunkOf (s .geometry) offset len done) (λ v. reading s offset len (next done) >>= (λ w. DONE s)) room (λ v. later)))
+
+    finished : (done : ℕ) → Fills readsCache len done (ret (tt {0}) >> DONE s)
+    unfolding _>>=_ _>>_
+    finished done = tt
+
+    fills-reading : (k done : ℕ) → len - done ≤ k → Fills readsCache len done (reading s offset len done >> DONE s)
+    fills-reading zero done h = rw (reading-loop s some offset len done, le-ltb done len (omega arith)) (finished done)
+    fills-reading (suc k) done h =
+        rw (reading-loop s some offset len done)
+        (by-cases (ltb done len)
+        (λ e. let below = ltb-true done len e in
+        let room = chunk-within (s .geometry) offset len done (suc len) (omega arith) (omega arith) in
+        let on = chunk-some (s .geometry) offset len done some below in
+        rw e (fills-piece done (omega arith) (fills-reading k (next done) (omega arith))))
+        (λ e. rw e (finished done)))
+
+    fills-read : Fills readsCache len 0 (read s offset len >> DONE s)
+    unfolding read refuse _>>=_ _>>_
+    fills-read = by-cases (inRange (s .geometry) offset len) (λ e. rw e (fills-reading len 0 (omega arith))) (λ e. rw e tt)
+
+-- ---- every call
+
+pub lent : (s : Setup) (c : Call) (b d : ℕ) → Bounds nandDriver parts Valid Built meaning s c b d → LendsAs nandDriver parts Valid Built meaning s c b d (takesOf (sortOf c b d))
+unfolding sortOf rustProgram
+lent s Call.New b d h = answered _ (omega arith) (bounded-with-config unread-figures 0 (omega arith) singleConfig)
+lent s (Call.WithConfig config) b d h = construction-unread s config b d
+lent s Call.Info b d h = bounded-ret
+lent s Call.Config b d h = bounded-ret
+lent s Call.Geometry b d h = bounded-ret
+lent s Call.Free b d h = bounded-ret
+lent s Call.DisableQuad b d h = ended _ (omega arith) (bounded-disable-quad unread-figures)
+lent s (Call.WriteRegister register value) b d h = ended _ (omega arith) (bounded-write-register unread-figures register value)
+lent s Call.WriteEnable b d h = ended _ (omega arith) (bounded-enable unread-figures)
+lent s Call.ReadStatus b d h = answered _ (omega arith) (bounded-status unread-figures)
+lent s Call.ReadConfiguration b d h = answered _ (omega arith) (bounded-configuration unread-figures)
+lent s Call.ReadProtection b d h = answered _ (omega arith) (bounded-protection unread-figures)
+lent s Call.Reset b d h = ended _ (omega arith) (bounded-reset unread-figures)
+lent s Call.JedecId b d h = answered _ (omega arith) (bounded-jedec-id unread-figures)
+lent s Call.ResetAndIdentify b d h = answered _ (omega arith) (bounded-identify unread-figures)
+lent s Call.EnsureConfiguration b d h = answered _ (omega arith) (bounded-ensure unread-figures (s .config))
+lent s Call.Unprotect b d h = answered _ (omega arith) (bounded-unprotect unread-figures)
+lent s (Call.PageRead page) b d h = ended _ (omega arith) (bounded-page-read unread-figures s page)
+lent s (Call.ReadCache column) b d h = (refl, fills-cache s column b)
+lent s (Call.LoadProgramData column) b d h = ended _ (omega arith) (bounded-load-data unread-figures s column d (Payload.Data 0 d))
+lent s (Call.ProgramExecute page) b d h = ended _ (omega arith) (bounded-execute unread-figures s page)
+lent s (Call.ReadPage page) b d h = (refl, fills-page s page b)
+lent s (Call.WritePage page) b d h = ended _ (omega arith) (bounded-write-page unread-figures s page d)
+lent s (Call.EraseBlock block) b d h = ended _ (omega arith) (bounded-erase unread-figures s block)
+lent s (Call.Read offset) b d h = (refl, fills-read s h offset b)
+lent s (Call.IsBadBlock block) b d h = answered _ (omega arith) (bounded-is-bad unread-figures s block)
+lent s (Call.MarkBadBlock block) b d h = ended _ (omega arith) (bounded-mark unread-figures s h block)
