@@ -3,7 +3,7 @@ use Prim.Native.Nat.{ℕ, _≤_}
 use native.Mathlib.Omega.{arith}
 use mathlib.Core.Bool.{true}
 use mathlib.Core.Logic.{⊎-elim}
-use mathlib.Core.Path.{_≡_, ap, sym, _∙_, subst}
+use mathlib.Core.Path.{_≡_, ap, subst}
 use mathlib.Core.List.{List, [], _∷_}
 use lib.ListN.{length}
 use Rattle.qspi.specs.Bytes.{AllBytes}
@@ -16,16 +16,15 @@ use Rattle.spi_flash.specs.Prog.{Prog, ask}
 use Rattle.spi_flash.specs.Path.{Past, End, going, done, failed, spent, delays, actions, asked, Well, Bounded, Reaches, Ends}
 use Rattle.spi_flash.specs.Run as Run
 use Rattle.spi_flash.specs.declared.loan.Takes.{Takes}
-use Rattle.spi_flash.specs.Run.{Event, reply, call, delayAsked, Fitting, HasEnded, answering, goesOn, runOf}
+use Rattle.spi_flash.specs.Run.{Event, reply, call, delayAsked, Fitting, HasEnded, answering, goesOn}
 use Rattle.spi_flash.specs.Machine.{Decision, more, well, bad, Config, machine, out, lentAs, settle, moved, Trail, decidedTrail, heardTrail, trail}
 use Rattle.spi_flash.proofs.Runs.{heard-view, first-delay, trail-asks, run-bound, run-ends}
 use Rattle.spi_flash.proofs.Reach.{reached}
 use Rattle.flash_runs.specs.Driver.{Left, Driver, takesAt, programAt, boundAt, actionsAt, endsAt, runAt}
 use Rattle.flash_runs.specs.Promises.{Ending, endsWith, endingAs, endedAs, EndsAs, ComesTo, EndsWell, Demand3}
-use Rattle.flash_runs.proofs.General.{Parts, Flash, Place, decideNext}
-use Rattle.flash_runs.proofs.Supplies.{Asks, Is, Supplies}
-use Rattle.flash_runs.proofs.Runs.{viewed}
-use Rattle.flash_runs.proofs.Views.{Opens, Nothing-begun, view, begun-opens, no-run, opens-run}
+use Rattle.flash_runs.proofs.General.{Parts, Place, decideNext}
+use Rattle.flash_runs.proofs.Supplies.{Asks, Supplies, Known}
+use Rattle.flash_runs.proofs.Views.{shape, Opens, Nothing-begun, view, begun-opens, no-run, opens-run}
 
 -- where the path of a run has ended well, the run has ended with that answer
 IsDone : {B : Type 0} → B → End B → Type 0
@@ -67,11 +66,22 @@ module _ (C : Type 0) {S A T : Type 0} (next : T → Outcome → Decision T (Lef
       (λ o c i. settled-ends es (λ s′ g j. ends-with s′ g es j) (next s o) (lentAs (x .scratch) (x .buffer) l) i)
       h
 
-module _ {F C S P A : Type 0} (driver : Driver F C S A) (parts : Parts S P A C) (Valid : Place S P → Type 0) (Built : P → Type 0) (meaning : Place S P → ℕ → Prog (Left S A))
-    (supplies : Supplies driver parts Valid Built meaning) (is : Is driver parts) where
+module _ {F C S A : Type 0} {driver : Driver F C S A} (known : Known driver) where
+  abbrev P : Type 0
+  P = known .P
+
+  abbrev parts : Parts S P A C
+  parts = known .parts
+
+  abbrev meaning : Place S P → ℕ → Prog (Left S A)
+  meaning = known .meaning
+
+  abbrev supplies : Supplies driver parts (known .Valid) (known .Built) meaning
+  supplies = known .supplies
+
   module _ (flash : F) (c : C) (l : Lent) where
     abbrev Opened : Type 0
-    Opened = Opens driver parts Valid Built meaning (viewed driver parts is flash) c l
+    Opened = Opens known (shape known flash) c l
 
     abbrev s : S
     s = driver .setup flash
@@ -91,20 +101,20 @@ module _ {F C S P A : Type 0} (driver : Driver F C S A) (parts : Parts S P A C) 
     bounded-run : Opened → (es : List (Event C)) → delayAsked (runAt driver flash c l es) ≤ boundAt driver flash c l
     unfolding delayAsked
     bounded-run o es =
-        rw (opens-run driver parts Valid Built meaning supplies is flash o es)
+        rw (opens-run known flash o es)
         (omega (
           arith,
           first-delay (o .first) (l .scratch) (l .given),
-          run-bound Valid (decideNext parts) (takesAt driver c l) meaning (supplies .simulates) (o .first) (o .at) (o .valid)
+          run-bound (known .Valid) (decideNext parts) (takesAt driver c l) meaning (supplies .simulates) (o .first) (o .at) (o .valid)
               (subst (Bounded delays (boundAt driver flash c l)) (o .program) (supplies .bounded s c b d (o .bounds))) es,
         ))
 
-    quiet-run : Nothing-begun driver parts Valid Built meaning (viewed driver parts is flash) c l → (es : List (Event C)) → delayAsked (runAt driver flash c l es) ≤ boundAt driver flash c l
+    quiet-run : Nothing-begun known (shape known flash) c l → (es : List (Event C)) → delayAsked (runAt driver flash c l es) ≤ boundAt driver flash c l
     unfolding delayAsked
-    quiet-run n es = rw (no-run driver parts Valid Built meaning supplies is flash n es) (omega arith)
+    quiet-run n es = rw (no-run known flash n es) (omega arith)
 
     never-passed : (es : List (Event C)) → delayAsked (runAt driver flash c l es) ≤ boundAt driver flash c l
-    never-passed es = ⊎-elim (λ n. quiet-run n es) (λ o. bounded-run o es) (view driver parts Valid Built meaning supplies is flash c l)
+    never-passed es = ⊎-elim (λ n. quiet-run n es) (λ o. bounded-run o es) (view known flash c l)
 
     -- ---- reached
 
@@ -115,13 +125,13 @@ module _ {F C S P A : Type 0} (driver : Driver F C S A) (parts : Parts S P A C) 
         let bill = boundAt driver flash c l in
         let path : Reaches (l .given) delays bill (ask (o .first) (meaning (o .at))) =
         subst (Reaches (l .given) delays bill) (o .program) (supplies .reached s c b (l .given) (o .bounds) small (asks o)) in
-        let r = reached C (decideNext parts) takes (l .given) Valid meaning (supplies .simulates) (o .first) (o .at) (λ past end. asked delays past end ≡ bill) (o .valid) (path .reach) in
+        let r = reached C (decideNext parts) takes (l .given) (known .Valid) meaning (supplies .simulates) (o .first) (o .at) (λ past end. asked delays past end ≡ bill) (o .valid) (path .reach) in
         record {
           replies = r .0;
           real = r .1;
-          fits = λ ls n w. rw (opens-run driver parts Valid Built meaning supplies is flash o (answering (r .0) ls)) (r .2 .fits ls n w);
+          fits = λ ls n w. rw (opens-run known flash o (answering (r .0) ls)) (r .2 .fits ls n w);
           asks = λ ls n w.
-              rw (opens-run driver parts Valid Built meaning supplies is flash o (answering (r .0) ls))
+              rw (opens-run known flash o (answering (r .0) ls))
               (omega (arith, first-delay (o .first) (l .scratch) (l .given), trail-asks {C = C} (decideNext parts) takes (o .at) (firstOf (o .first)) (answering (r .0) ls), r .2 .leads ls n w));
         }
 
@@ -130,9 +140,9 @@ module _ {F C S P A : Type 0} (driver : Driver F C S A) (parts : Parts S P A C) 
     run-has-ended : (es : List (Event C)) → Opened → Fitting (runAt driver flash c l es) → actionsAt driver flash c l ≤ length es → HasEnded (runAt driver flash c l es)
     unfolding Fitting HasEnded
     run-has-ended es o fit long =
-        let e = opens-run driver parts Valid Built meaning supplies is flash o es in
+        let e = opens-run known flash o es in
         rw e
-        (run-ends (decideNext parts) (takesAt driver c l) Valid meaning (supplies .simulates) (o .first) (o .at) (o .valid)
+        (run-ends (decideNext parts) (takesAt driver c l) (known .Valid) meaning (supplies .simulates) (o .first) (o .at) (o .valid)
         (subst (Bounded actions (actionsAt driver flash c l)) (o .program) (supplies .acts s c b d (o .bounds)))
         es (rw e at fit) long)
 
@@ -143,20 +153,20 @@ module _ {F C S P A : Type 0} (driver : Driver F C S A) (parts : Parts S P A C) 
     comes-well small can o =
         let e = supplies .endsWell s c b (l .given) (o .bounds) small (asks o) can in
         let path : Ends (l .given) delays (e .0) (e .1) (ask (o .first) (meaning (o .at))) = subst (Ends (l .given) delays (e .0) (e .1)) (o .program) (e .2) in
-        let r = reached C (decideNext parts) (takesAt driver c l) (l .given) Valid meaning (supplies .simulates) (o .first) (o .at) (Well (λ x xs. (x ≡ e .1) × (spent delays xs ≡ e .0))) (o .valid) (path .ends) in
+        let r = reached C (decideNext parts) (takesAt driver c l) (l .given) (known .Valid) meaning (supplies .simulates) (o .first) (o .at) (Well (λ x xs. (x ≡ e .1) × (spent delays xs ≡ e .0))) (o .valid) (path .ends) in
         record {
           values = driver .values (e .1 .answer);
           replies = r .0;
           real = r .1;
           ends = λ ls n w.
-              rw (opens-run driver parts Valid Built meaning supplies is flash o (answering (r .0) ls))
+              rw (opens-run known flash o (answering (r .0) ls))
               (ends-with C (decideNext parts) (driver .values) (takesAt driver c l) (e .1) (o .at) (firstOf (o .first)) (answering (r .0) ls) (well-done (e .1) (e .0) _ _ (r .2 .leads ls n w)));
         }
 
   pub demand3 : Demand3 driver
   demand3 = record {
     bounded = never-passed;
-    reached = λ flash c l small h. comes-to flash c l small (begun-opens driver parts Valid Built meaning supplies is flash c l h);
-    ends = λ flash c l es h fit long. run-has-ended flash c l es (begun-opens driver parts Valid Built meaning supplies is flash c l h) fit long;
-    endsWell = λ flash c l small h can. comes-well flash c l small can (begun-opens driver parts Valid Built meaning supplies is flash c l h);
+    reached = λ flash c l small h. comes-to flash c l small (begun-opens known flash c l h);
+    ends = λ flash c l es h fit long. run-has-ended flash c l es (begun-opens known flash c l h) fit long;
+    endsWell = λ flash c l small h can. comes-well flash c l small can (begun-opens known flash c l h);
   }

@@ -3,7 +3,7 @@ use Prim.Native.Nat.{ℕ, _≤_}
 use mathlib.Core.Bool.{Bool, true, false}
 use mathlib.Core.Logic.{⊎-elim}
 use mathlib.Core.Option.{Option, none, some}
-use mathlib.Core.Path.{_≡_, refl, ap, ap₂, sym, _∙_, subst}
+use mathlib.Core.Path.{_≡_, refl, ap, sym, _∙_, subst}
 use mathlib.Core.List.{List, [], _∷_}
 use lib.ListN.{length}
 use Rattle.qspi.specs.Choice.{pick}
@@ -12,8 +12,6 @@ use Rattle.frames.specs.Frame.{firstOf}
 use Rattle.qspi.specs.declared.transfer.Transfer.{Transfer}
 use Rattle.frames.specs.declared.frame.Outcome.{Outcome}
 use Rattle.spi_flash.specs.Loan.{Lent}
-use Rattle.spi_flash.specs.Prog.{Prog}
-use Rattle.spi_flash.specs.Run as Run
 use Rattle.spi_flash.specs.Run.{Event, reply, call, System, goesOn, atOnce, callOf, stateAfter}
 use Rattle.spi_flash.specs.Seen.{toldThen, told}
 use Rattle.spi_flash.specs.declared.loan.Takes.{Takes}
@@ -21,14 +19,17 @@ use Rattle.flash_runs.specs.Driver.{Left, Sort, constructs, tells, relea
 use Rattle.flash_runs.specs.SameAsRust.{Ready, Usable, driverOf, leftBy, madeBy, driverAfter}
 use Rattle.flash_runs.proofs.General as General
 use Rattle.flash_runs.proofs.General.{Then, Parts, Job, jobOf, Running, idle, busy, isBusy, Flash, flashOf, Place, Step, settled, general}
-use Rattle.flash_runs.proofs.Supplies.{Is, Stays, Supplies}
+use Rattle.flash_runs.proofs.Supplies.{Stays, Known}
 use Rattle.flash_runs.proofs.Steps.{step-view}
-use Rattle.flash_runs.proofs.Runs.{viewed, same-call, same-state}
-use Rattle.flash_runs.proofs.Views.{true≢false, driven, Began, making, serving, Opens, Kept, Answered, gives, turns, usable}
+use Rattle.flash_runs.proofs.Runs.{same-call, same-state}
+use Rattle.flash_runs.proofs.Views.{true≢false, shape, driven, Began, making, serving, Opens, Kept, Answered, gives, turns, usable}
 
 -- the Rust's struct, while there is one
 abbrev made-in : {S P : Type 0} → Flash S P → Option S
 made-in flash = pick (flash .built) (some (flash .setup)) none
+
+both-there : {S : Type 0} (s : S) {a b : Bool} → a ≡ true → b ≡ true → pick a (some s) none ≡ pick b (some s) none
+both-there s h k = rw (h, k) refl
 
 -- ---- a driver at rest
 
@@ -103,22 +104,27 @@ module _ {S P A C : Type 0} (parts : Parts S P A C) (inBounds : S → Bool) wher
 
 -- ---- every call
 
-module _ {F C S P A : Type 0} (driver : Driver F C S A) (parts : Parts S P A C) (Valid : Place S P → Type 0) (Built : P → Type 0) (meaning : Place S P → ℕ → Prog (Left S A))
-    (supplies : Supplies driver parts Valid Built meaning) (is : Is driver parts) where
+module _ {F C S A : Type 0} {driver : Driver F C S A} (known : Known driver) where
+  abbrev P : Type 0
+  P = known .P
+
+  abbrev parts : Parts S P A C
+  parts = known .parts
+
   abbrev driving : System (Flash S P) C (Left S A)
-  driving = driven driver parts Valid Built meaning
+  driving = driven known
 
   -- one that ends at once
-  kept-driver : (x : Sort S) (flash : F) (l : Lent) (built : Bool) (left : Option (Left S A)) → Kept driver parts Valid Built meaning x built → Ready driver x flash l →
+  kept-driver : (x : Sort S) (flash : F) (l : Lent) (built : Bool) (left : Option (Left S A)) → Kept known x built → Ready driver x flash l →
       pick built (some (driver .setup flash)) none ≡ driverAfter x (driverOf driver flash) left
   kept-driver (constructs fresh) flash l built left k h = absurd k
-  kept-driver tells flash l built left k h = rw (k, h) refl
+  kept-driver tells flash l built left k h = both-there (driver .setup flash) k h
   kept-driver releases flash l built left k h = rw k refl
-  kept-driver (uses takes) flash l built left k h = rw (k, h .0) refl
+  kept-driver (uses takes) flash l built left k h = both-there (driver .setup flash) k (h .0)
 
   module _ (flash : F) (c : C) (l : Lent) (es : List (Event C)) where
     abbrev viewing : Flash S P
-    viewing = viewed driver parts is flash
+    viewing = shape known flash
 
     abbrev Leaves : Type 0
     Leaves = driverOf driver (flashAfter driver flash c l es) ≡ driverAfter (sortAt driver c l) (driverOf driver flash) (leftBy (told (stepsAt driver flash c l es)))
@@ -132,14 +138,14 @@ module _ {F C S P A : Type 0} (driver : Driver F C S A) (parts : Parts S P A C) 
     left-of : (m : Step S P A) → driving .begin viewing c l ≡ m → LeavesBy m → Leaves
     unfolding told callOf
     left-of m e h =
-        ap made-in (same-state driver parts is flash c l es)
+        ap made-in (same-state driver parts (known .is) flash c l es)
         ∙ subst LeavesBy (sym e) h
-        ∙ ap (λ xs. driverAfter (sortAt driver c l) (driverOf driver flash) (leftBy (told xs))) (sym (same-call driver parts is flash c l es))
+        ∙ ap (λ xs. driverAfter (sortAt driver c l) (driverOf driver flash) (leftBy (told xs))) (sym (same-call driver parts (known .is) flash c l es))
 
-    answered-left : Answered driver parts Valid Built meaning viewing c l → Usable driver flash c l → Leaves
+    answered-left : Answered known viewing c l → Usable driver flash c l → Leaves
     answered-left (gives a u n p e k) h = left-of _ e (rw (rest-state parts (driver .inBounds) (driver .setup flash) u n es) (kept-driver (sortAt driver c l) flash l u _ k (h .ready)))
     answered-left (turns x takes p e k) h =
-        left-of _ e (rw (still parts (driver .inBounds) (is .running flash) (driver .setup flash) (driver .built flash) (is .count flash) es (sym (is .runs flash) ∙ h .idle), k) refl)
+        left-of _ e (rw (still parts (driver .inBounds) (known .is .running flash) (driver .setup flash) (driver .built flash) (known .is .count flash) es (sym (known .is .runs flash) ∙ h .idle), k) refl)
 
     -- one that runs
     module _ (held : S) (there : Bool) (job : Job P) where
@@ -152,19 +158,19 @@ module _ {F C S P A : Type 0} (driver : Driver F C S A) (parts : Parts S P A C) 
       constructed : (fresh : S) → sortAt driver c l ≡ constructs fresh → there ≡ false → RunLeaves
       constructed fresh k absent = rw (k, absent) (makes parts (driver .inBounds) es held 0 job)
 
-      used : (takes : Takes) → Usable driver flash c l → sortAt driver c l ≡ uses takes → there ≡ true → (held ≡ driver .setup flash) × Built (job .phase) → RunLeaves
+      used : (takes : Takes) → Usable driver flash c l → sortAt driver c l ≡ uses takes → there ≡ true → (held ≡ driver .setup flash) × known .Built (job .phase) → RunLeaves
       used takes h k present stays =
           let ready : (driver .built flash ≡ true) × (scratchLeast ≤ length (l .scratch)) = subst (λ x. Ready driver x flash l) k (h .ready) in
-          rw (k, present, ready .0) (keeps parts (driver .inBounds) Built held (supplies .stays held) es 0 job (stays .1) ∙ ap some (stays .0))
+          rw (k, present, ready .0) (keeps parts (driver .inBounds) (known .Built) held (known .supplies .stays held) es 0 job (stays .1) ∙ ap some (stays .0))
 
-    began-left : (at : Place S P) (built : Bool) (first : Transfer) → Began driver parts Valid Built meaning viewing c l at built first → Usable driver flash c l →
+    began-left : (at : Place S P) (built : Bool) (first : Transfer) → Began known viewing c l at built first → Usable driver flash c l →
         RunLeaves (at .setup) built (jobOf (at .phase) (firstOf first) (takesAt driver c l))
     began-left at built first (making fresh k absent) h = constructed (at .setup) built (jobOf (at .phase) (firstOf first) (takesAt driver c l)) fresh k absent
     began-left at built first (serving takes k present stays) h = used (at .setup) built (jobOf (at .phase) (firstOf first) (takesAt driver c l)) takes h k present stays
 
-    opened-left : Opens driver parts Valid Built meaning viewing c l → Usable driver flash c l → Leaves
+    opened-left : Opens known viewing c l → Usable driver flash c l → Leaves
     unfolding settled
     opened-left o h = left-of _ (o .is) (began-left (o .at) (o .built) (o .first) (o .began) h)
 
     pub left : Usable driver flash c l → Leaves
-    left h = ⊎-elim (λ a. answered-left a h) (λ o. opened-left o h) (usable driver parts Valid Built meaning supplies is flash c l h)
+    left h = ⊎-elim (λ a. answered-left a h) (λ o. opened-left o h) (usable known flash c l h)

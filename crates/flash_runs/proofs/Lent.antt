@@ -13,7 +13,7 @@ use Rattle.frames.specs.declared.frame.Stage.{Stage}
 use Rattle.spi_flash.specs.Loan.{Lent}
 use Rattle.spi_flash.specs.Path.{Bounded}
 use Rattle.spi_flash.specs.Prog.{Prog, ask}
-use Rattle.spi_flash.specs.Run.{Event, runOf, stateAfter}
+use Rattle.spi_flash.specs.Run.{Event, stateAfter}
 use Rattle.spi_flash.specs.Seen.{Undisturbed, KeepsBuffer, selectAfter, EndsHigh}
 use Rattle.spi_flash.specs.declared.loan.Takes.{Takes}
 use Rattle.spi_flash.proofs.Performs.{first-shown}
@@ -22,27 +22,38 @@ use Rattle.spi_flash.proofs.Unread.{bufferReads, keeps-buffer}
 use Rattle.flash_runs.specs.Driver.{Left, takesBuffer, Driver, takesAt, programAt, runAt, flashAfter}
 use Rattle.flash_runs.specs.Promises.{Demand1}
 use Rattle.flash_runs.specs.Reading.{bytesRead, ChangesRead, HoldsRead}
-use Rattle.flash_runs.proofs.General.{Parts, Flash, Place, decideNext, settled, general}
+use Rattle.flash_runs.proofs.General.{Parts, Place, decideNext, settled, general}
 use Rattle.flash_runs.proofs.Filling.{Fills, first-filling}
 use Rattle.flash_runs.proofs.Buffer.{changes-read, holds-read}
-use Rattle.flash_runs.proofs.Supplies.{Is, LendsAs, Supplies}
-use Rattle.flash_runs.proofs.Runs.{viewed, same-run, same-state}
+use Rattle.flash_runs.proofs.Supplies.{LendsAs, Supplies, Known}
+use Rattle.flash_runs.proofs.Runs.{same-run, same-state}
 use Rattle.flash_runs.proofs.Delivered.{counts}
-use Rattle.flash_runs.proofs.Views.{true≢false, Opens, Nothing-begun, view, begun-opens, no-run, opens-steps, opens-run}
+use Rattle.flash_runs.proofs.Views.{true≢false, shape, Opens, Nothing-begun, view, begun-opens, no-run, opens-steps, opens-run}
 
-module _ {F C S P A : Type 0} (driver : Driver F C S A) (parts : Parts S P A C) (Valid : Place S P → Type 0) (Built : P → Type 0) (meaning : Place S P → ℕ → Prog (Left S A))
-    (supplies : Supplies driver parts Valid Built meaning) (is : Is driver parts) (flash : F) (c : C) (l : Lent) (es : List (Event C)) where
+module _ {F C S A : Type 0} {driver : Driver F C S A} (known : Known driver) (flash : F) (c : C) (l : Lent) (es : List (Event C)) where
+  abbrev P : Type 0
+  P = known .P
+
+  abbrev parts : Parts S P A C
+  parts = known .parts
+
+  abbrev meaning : Place S P → ℕ → Prog (Left S A)
+  meaning = known .meaning
+
+  abbrev supplies : Supplies driver parts (known .Valid) (known .Built) meaning
+  supplies = known .supplies
+
   abbrev Opened : Type 0
-  Opened = Opens driver parts Valid Built meaning (viewed driver parts is flash) c l
+  Opened = Opens known (shape known flash) c l
 
   abbrev Quiet : Type 0
-  Quiet = Nothing-begun driver parts Valid Built meaning (viewed driver parts is flash) c l
+  Quiet = Nothing-begun known (shape known flash) c l
 
   begins : Quiet ⊎ Opened
-  begins = view driver parts Valid Built meaning supplies is flash c l
+  begins = view known flash c l
 
   nothing : Quiet → runAt driver flash c l es ≡ []
-  nothing n = no-run driver parts Valid Built meaning supplies is flash n es
+  nothing n = no-run known flash n es
 
   abbrev reads : List ℕ → Bool
   reads = driver .reads
@@ -52,7 +63,7 @@ module _ {F C S P A : Type 0} (driver : Driver F C S A) (parts : Parts S P A C) 
 
   -- what is known of a call's program, by what the call takes
   abbrev Lends : Takes → Type 0
-  Lends takes = LendsAs driver parts Valid Built meaning (driver .setup flash) c len (length (l .given)) takes
+  Lends takes = LendsAs driver (driver .setup flash) c len (length (l .given)) takes
 
   lends : Opened → Lends (takesAt driver c l)
   lends o = supplies .lent (driver .setup flash) c len (length (l .given)) (o .bounds)
@@ -71,38 +82,38 @@ module _ {F C S P A : Type 0} (driver : Driver F C S A) (parts : Parts S P A C) 
 
   module _ (own : takesBuffer (takesAt driver c l) ≡ true) where
     module _ (o : Opened) where
-      known : (takesAt driver c l ≡ Takes.Buffer len) × Fills reads len 0 (programAt driver (driver .setup flash) c l)
-      known = filling (takesAt driver c l) own (lends o)
+      filled : (takesAt driver c l ≡ Takes.Buffer len) × Fills reads len 0 (programAt driver (driver .setup flash) c l)
+      filled = filling (takesAt driver c l) own (lends o)
 
       fills-first : Fills reads len 0 (ask (o .first) (meaning (o .at)))
-      fills-first = subst (Fills reads len 0) (o .program) (known .1)
+      fills-first = subst (Fills reads len 0) (o .program) (filled .1)
 
       opened-changes : ChangesRead reads false 0 (runAt driver flash c l es)
       unfolding ChangesRead firstOf
       opened-changes =
-          rw (opens-run driver parts Valid Built meaning supplies is flash o es, known .0) (
+          rw (opens-run known flash o es, filled .0) (
             record { size = refl; kept = refl },
-            changes-read C Valid (decideNext parts) meaning (supplies .simulates) reads len es (o .at) (o .first) Stage.Start (Outcome.Value 0) _ 0 (o .valid) (first-filling reads len _ fills-first),
+            changes-read C (known .Valid) (decideNext parts) meaning (supplies .simulates) reads len es (o .at) (o .first) Stage.Start (Outcome.Value 0) _ 0 (o .valid) (first-filling reads len _ fills-first),
           )
 
       opened-holds : Undisturbed (l .buffer) (runAt driver flash c l es) → HoldsRead reads false (l .buffer) [] (runAt driver flash c l es)
       unfolding HoldsRead Undisturbed firstOf
       opened-holds h =
-          let still = rw (opens-run driver parts Valid Built meaning supplies is flash o es, known .0) at h in
-          rw (opens-run driver parts Valid Built meaning supplies is flash o es, known .0) (
+          let still = rw (opens-run known flash o es, filled .0) at h in
+          rw (opens-run known flash o es, filled .0) (
             refl,
-            holds-read C Valid (decideNext parts) meaning (supplies .simulates) reads len es (o .at) (o .first) Stage.Start (Outcome.Value 0) _ (l .buffer) [] (l .buffer) (o .valid) (first-filling reads len _ fills-first) refl (still .1),
+            holds-read C (known .Valid) (decideNext parts) meaning (supplies .simulates) reads len es (o .at) (o .first) Stage.Start (Outcome.Value 0) _ (l .buffer) [] (l .buffer) (o .valid) (first-filling reads len _ fills-first) refl (still .1),
           )
 
-      opened-delivers : is .count (flashAfter driver flash c l es) ≡ length (bytesRead reads false (runAt driver flash c l es))
+      opened-delivers : known .is .count (flashAfter driver flash c l es) ≡ length (bytesRead reads false (runAt driver flash c l es))
       unfolding bytesRead settled firstOf
       opened-delivers =
-          ap (λ g. g .delivered) (same-state driver parts is flash c l es)
+          ap (λ g. g .delivered) (same-state driver parts (known .is) flash c l es)
           ∙ ap (λ m. stateAfter (general parts (driver .inBounds)) (m .flash) es .delivered) (o .is)
-          ∙ rw (known .0)
-          (counts parts (driver .inBounds) reads Valid meaning (supplies .simulates) len (o .built) es (o .at .setup) (o .at .phase) _ 0 (firstOf (o .first)) (record { valid = o .valid; filling = first-filling reads len _ fills-first }))
+          ∙ rw (filled .0)
+          (counts parts (driver .inBounds) reads (known .Valid) meaning (supplies .simulates) len (o .built) es (o .at .setup) (o .at .phase) _ 0 (firstOf (o .first)) (record { valid = o .valid; filling = first-filling reads len _ fills-first }))
           ∙ zero-add _
-          ∙ ap (λ xs. length (bytesRead reads false xs)) (sym (same-run driver parts is flash c l es ∙ opens-steps driver parts Valid Built meaning supplies is o es))
+          ∙ ap (λ xs. length (bytesRead reads false xs)) (sym (same-run driver parts (known .is) flash c l es ∙ opens-steps known o es))
 
     changes : ChangesRead reads false 0 (runAt driver flash c l es)
     unfolding ChangesRead
@@ -122,8 +133,8 @@ module _ {F C S P A : Type 0} (driver : Driver F C S A) (parts : Parts S P A C) 
       opened o =
           let none : Bounded bufferReads 0 (ask (o .first) (meaning (o .at))) =
           subst (Bounded bufferReads 0) (o .program) (unread (takesAt driver c l) h (lends o)) in
-          rw (opens-run driver parts Valid Built meaning supplies is flash o es)
-          (refl, keeps-buffer Valid (decideNext parts) (takesAt driver c l) meaning (supplies .simulates) es (o .at) (firstOf (o .first)) (o .valid) none)
+          rw (opens-run known flash o es)
+          (refl, keeps-buffer (known .Valid) (decideNext parts) (takesAt driver c l) meaning (supplies .simulates) es (o .at) (firstOf (o .first)) (o .valid) none)
 
   -- ---- select
 
@@ -135,19 +146,18 @@ module _ {F C S P A : Type 0} (driver : Driver F C S A) (parts : Parts S P A C) 
       opened o =
           let shown = shownOf (actionOf (firstOf (o .first))) (l .scratch) (l .given) in
           let same : selectAfter shown false ≡ selectAfter shown true = rw (first-shown (o .first) (l .scratch) (l .given)) (o .selects false) in
-          rw (opens-run driver parts Valid Built meaning supplies is flash o es)
+          rw (opens-run known flash o es)
           (ends-high (decideNext parts) (takesAt driver c l) (o .at) (firstOf (o .first)) es (selectAfter shown false)
           (subst (Raised Stage.Start (o .first)) (sym same) (first-raised (o .first) (l .scratch) (l .given))))
 
-module _ {F C S P A : Type 0} (driver : Driver F C S A) (parts : Parts S P A C) (Valid : Place S P → Type 0) (Built : P → Type 0) (meaning : Place S P → ℕ → Prog (Left S A))
-    (supplies : Supplies driver parts Valid Built meaning) (is : Is driver parts) where
+module _ {F C S A : Type 0} {driver : Driver F C S A} (known : Known driver) where
   pub demand1 : Demand1 driver
   demand1 = record {
-    changes = changes driver parts Valid Built meaning supplies is;
-    holds = holds driver parts Valid Built meaning supplies is;
+    changes = changes known;
+    holds = holds known;
     delivered = λ flash c l es own h buffer.
-        is .shows (flashAfter driver flash c l es) buffer
-        ∙ ap (λ n. take n buffer) (opened-delivers driver parts Valid Built meaning supplies is flash c l es own (begun-opens driver parts Valid Built meaning supplies is flash c l h));
-    keeps = kept driver parts Valid Built meaning supplies is;
-    endsHigh = high-at-end driver parts Valid Built meaning supplies is;
+        known .is .shows (flashAfter driver flash c l es) buffer
+        ∙ ap (λ n. take n buffer) (opened-delivers known flash c l es own (begun-opens known flash c l h));
+    keeps = kept known;
+    endsHigh = high-at-end known;
   }

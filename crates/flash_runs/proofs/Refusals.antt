@@ -17,7 +17,7 @@ use Rattle.spi_flash.specs.declared.loan.Takes.{Takes}
 use Rattle.flash_runs.specs.Driver.{Left, Driver}
 use Rattle.flash_runs.specs.Promises.{RefusalsKeep}
 use Rattle.flash_runs.proofs.General as General
-use Rattle.flash_runs.proofs.General.{Then, Opening, constructing, telling, releasing, working, Parts, Job, Running, idle, busy, Flash, flashOf, Step, settled, told, opened, freed, constructed, begun, openedAs, proceeds, answerAt, beginAt}
+use Rattle.flash_runs.proofs.General.{Then, Opening, constructing, telling, releasing, working, Parts, Job, Running, idle, busy, Flash, Step, settled, told, opened, freed, constructed, begun, openedAs, proceeds, answerAt, beginAt}
 use Rattle.flash_runs.proofs.Supplies.{Alike, Is}
 use Rattle.flash_runs.proofs.Steps.{step-view}
 use Rattle.flash_runs.proofs.Runs.{viewed}

@@ -1,7 +1,7 @@
 -- The runs of a driver are those of the general driver, and these are runs of the machine.
 use Prim.Native.Nat.{ℕ}
 use mathlib.Core.Bool.{Bool, true, false}
-use mathlib.Core.Path.{_≡_, refl, ap, ap₂, sym, _∙_}
+use mathlib.Core.Path.{_≡_, refl, ap, ap₂, _∙_}
 use mathlib.Core.List.{List, [], _∷_}
 use lib.ListN.{length}
 use Rattle.qspi.specs.Bus.{fitsOf}
@@ -9,15 +9,14 @@ use Rattle.qspi.specs.Choice.{pick}
 use Rattle.frames.specs.Frame.{actionOf, exchangeOf, advancedOf, takenIn, gave, deliveredBy}
 use Rattle.qspi.specs.declared.bus.Reply.{Reply}
 use Rattle.frames.specs.declared.frame.Advanced.{Advanced}
-use Rattle.frames.specs.declared.frame.Frame.{Frame}
 use Rattle.spi_flash.specs.Loan.{Lent, readyFor}
-use Rattle.spi_flash.specs.Run.{Event, reply, call, Given, act, ended, failed, refused, Entry, Moved, System, entry, atOnce, opening, goesOn, begunWith, runOf, callOf, stateAfter}
+use Rattle.spi_flash.specs.Run.{Event, reply, call, Given, act, ended, failed, refused, Moved, System, entry, atOnce, goesOn, begunWith, runOf, callOf, stateAfter}
 use Rattle.spi_flash.specs.Machine.{Config, out, rest, lentAs, settle, moved, answered, machine}
 use Rattle.spi_flash.specs.declared.loan.Takes.{Takes}
 use Rattle.qspi.proofs.Cases.{by-cases}
 use Rattle.flash_runs.specs.Driver.{Left, Driver}
 use Rattle.flash_runs.proofs.General as General
-use Rattle.flash_runs.proofs.General.{Then, Parts, Job, Running, idle, busy, isBusy, Flash, flashOf, Place, place, decide, decideNext, settled, afterwards, proceeds, answerAt, general}
+use Rattle.flash_runs.proofs.General.{Then, Parts, Job, Running, idle, busy, Flash, flashOf, Place, place, decide, decideNext, settled, afterwards, proceeds, answerAt, general}
 use Rattle.flash_runs.proofs.Supplies.{viewOf, Alike, Is}
 
 -- ---- alike steps, alike runs

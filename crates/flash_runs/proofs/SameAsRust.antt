@@ -14,10 +14,10 @@ use Rattle.spi_flash.specs.declared.loan.Takes.{Takes}
 use Rattle.spi_flash.proofs.Performs.{performs}
 use Rattle.flash_runs.specs.Driver.{Left, Sort, constructs, tells, releases, uses, Driver, sortAt, takesAt, programAt, stepsAt}
 use Rattle.flash_runs.specs.SameAsRust.{Ready, Regular, rustCall, driverOf, leftBy, driverAfter, Turn, turnSteps, turnAfter, Orderly, session, holding, rustTurn, rustSession, Demand2}
-use Rattle.flash_runs.proofs.General.{Opening, constructing, telling, releasing, working, Parts, Flash, Place, decideNext}
-use Rattle.flash_runs.proofs.Supplies.{Is, OpensAs, Supplies}
-use Rattle.flash_runs.proofs.Runs.{viewed, same-call}
-use Rattle.flash_runs.proofs.Views.{driven, Opens, Answered, gives, turns, usable, opens-call}
+use Rattle.flash_runs.proofs.General.{Opening, constructing, telling, releasing, working, Parts, Flash, decideNext}
+use Rattle.flash_runs.proofs.Supplies.{OpensAs, Known}
+use Rattle.flash_runs.proofs.Runs.{same-call}
+use Rattle.flash_runs.proofs.Views.{shape, driven, Opens, Answered, gives, turns, usable, opens-call}
 use Rattle.flash_runs.proofs.LeftBehind.{left}
 
 no-tells : {S : Type 0} {s : S} → _≡_ {A = Sort S} tells (constructs s) → ⊥
@@ -29,10 +29,15 @@ no-releases h = let z : _≡_ {A = ℕ} 0 1 = cc in omega arith
 no-uses : {S : Type 0} {s : S} {takes : Takes} → _≡_ {A = Sort S} (uses takes) (constructs s) → ⊥
 no-uses h = let z : _≡_ {A = ℕ} 0 1 = cc in omega arith
 
-module _ {F C S P A : Type 0} (driver : Driver F C S A) (parts : Parts S P A C) (Valid : Place S P → Type 0) (Built : P → Type 0) (meaning : Place S P → ℕ → Prog (Left S A))
-    (supplies : Supplies driver parts Valid Built meaning) (is : Is driver parts) where
+module _ {F C S A : Type 0} {driver : Driver F C S A} (known : Known driver) where
+  abbrev P : Type 0
+  P = known .P
+
+  abbrev parts : Parts S P A C
+  parts = known .parts
+
   abbrev driving : System (Flash S P) C (Left S A)
-  driving = driven driver parts Valid Built meaning
+  driving = driven known
 
   -- the program's call, of a program that is known
   rust-is : (setup : S) (c : C) (l : Lent) (es : List (Event C)) (p : Prog (Left S A)) → programAt driver setup c l ≡ p →
@@ -43,33 +48,33 @@ module _ {F C S P A : Type 0} (driver : Driver F C S A) (parts : Parts S P A C) 
     abbrev Same : Type 0
     Same = told (stepsAt driver flash c l es) ≡ rustCall driver (driver .setup flash) c l es
 
-    answered-same : Answered driver parts Valid Built meaning (viewed driver parts is flash) c l → Same
+    answered-same : Answered known (shape known flash) c l → Same
     unfolding told callOf programOnBus performed
     answered-same (gives a u n p e k) =
-        ap told (same-call driver parts is flash c l es)
+        ap told (same-call driver parts (known .is) flash c l es)
         ∙ ap (λ m. toldThen (atOnce (m .given)) (m .left .buffer) (told (goesOn driving (m .flash) es))) e ∙ sym (rust-is (driver .setup flash) c l es _ p)
     answered-same (turns x takes p e k) =
-        ap told (same-call driver parts is flash c l es)
+        ap told (same-call driver parts (known .is) flash c l es)
         ∙ ap (λ m. toldThen (atOnce (m .given)) (m .left .buffer) (told (goesOn driving (m .flash) es))) e ∙ sym (rust-is (driver .setup flash) c l es _ p)
 
-    opened-same : Opens driver parts Valid Built meaning (viewed driver parts is flash) c l → Regular driver flash c l es → Same
+    opened-same : Opens known (shape known flash) c l → Regular driver flash c l es → Same
     unfolding told Fitting SameData Undisturbed
     opened-same o h =
-        let e = opens-call driver parts Valid Built meaning supplies is flash o es in
+        let e = opens-call known flash o es in
         let fit = subst Fitting e (h .fitting) in
         let same = subst (SameData (l .given)) e (h .sameData) in
         let still = subst (Undisturbed (l .buffer)) e (h .undisturbed) in
         ap told e
-        ∙ performs C Valid (decideNext parts) (takesAt driver c l) meaning (supplies .simulates) (l .given) (o .first) (o .at) es l (o .valid) refl fit (same .1) (still .1)
+        ∙ performs C (known .Valid) (decideNext parts) (takesAt driver c l) (known .meaning) (known .supplies .simulates) (l .given) (o .first) (o .at) es l (o .valid) refl fit (same .1) (still .1)
         ∙ sym (rust-is (driver .setup flash) c l es _ (o .program))
 
     same : Regular driver flash c l es → Same
-    same h = ⊎-elim answered-same (λ o. opened-same o h) (usable driver parts Valid Built meaning supplies is flash c l (h .usable))
+    same h = ⊎-elim answered-same (λ o. opened-same o h) (usable known flash c l (h .usable))
 
   -- ---- any sequence of calls
 
   -- a construction does not look at what was there before
-  constructs-alike : (s : S) (c : C) (b d : ℕ) (x : Opening S P A) → OpensAs driver parts Valid Built meaning s c b d x → (fresh : S) → driver .sort c b d ≡ constructs fresh → (before : S) →
+  constructs-alike : (s : S) (c : C) (b d : ℕ) (x : Opening S P A) → OpensAs driver parts (known .Valid) (known .Built) (known .meaning) s c b d x → (fresh : S) → driver .sort c b d ≡ constructs fresh → (before : S) →
       driver .program before c b d ≡ driver .program s c b d
   constructs-alike s c b d (constructing own) k fresh h before = k .alike before
   constructs-alike s c b d (telling answer) a fresh h before = absurd (no-tells (sym (a .sorted) ∙ h))
@@ -83,7 +88,7 @@ module _ {F C S P A : Type 0} (driver : Driver F C S A) (parts : Parts S P A C) 
       let s = driver .setup flash in
       let b = length (l .buffer) in
       let d = length (l .given) in
-      sym (constructs-alike s c b d (parts .opening s c b d) (supplies .opens s c b d) fresh e _)
+      sym (constructs-alike s c b d (parts .opening s c b d) (known .supplies .opens s c b d) fresh e _)
   held tells flash c l e h = rw h refl
   held releases flash c l e h = rw h refl
   held (uses takes) flash c l e h = rw (h .0) refl
@@ -101,8 +106,8 @@ module _ {F C S P A : Type 0} (driver : Driver F C S A) (parts : Parts S P A C) 
       ap₂ (λ a b. a ∷ b) head
       (sessions (turnAfter driver flash x) xs (h .1)
       ∙ ap (λ before. rustSession driver before xs)
-      (left driver parts Valid Built meaning supplies is flash (x .call) (x .lent) (x .events) (h .0 .usable)
+      (left known flash (x .call) (x .lent) (x .events) (h .0 .usable)
       ∙ ap (λ steps. driverAfter (sortAt driver (x .call) (x .lent)) (driverOf driver flash) (leftBy steps)) head))
 
   pub demand2 : Demand2 driver
-  demand2 = record { same = same; left = left driver parts Valid Built meaning supplies is; sessions = sessions }
+  demand2 = record { same = same; left = left known; sessions = sessions }

@@ -1,7 +1,7 @@
 -- What a driver must supply, and then all promises hold of it (`promises` of proofs/Promises.antt): that it
 -- is the general driver (`Is`), and what its calls' programs come to (`Supplies`).
 use Prim.Native.Nat.{ℕ}
-use mathlib.Core.Bool.{Bool, true, false}
+use mathlib.Core.Bool.{Bool, true}
 use mathlib.Core.Path.{_≡_, sym, subst}
 use mathlib.Core.List.{List}
 use lib.ListN.{length, take}
@@ -18,7 +18,7 @@ use Rattle.spi_flash.specs.Run.{Moved}
 use Rattle.spi_flash.specs.Seen.{selectAfter}
 use Rattle.spi_flash.specs.declared.loan.Takes.{Takes}
 use Rattle.spi_flash.proofs.Unread.{bufferReads}
-use Rattle.flash_runs.specs.Driver.{Left, leaving, Sort, constructs, tells, releases, uses, takesOf, takesBuffer, worksOn, Driver}
+use Rattle.flash_runs.specs.Driver.{Left, leaving, Sort, constructs, tells, releases, uses, takesOf, worksOn, Driver}
 use Rattle.flash_runs.proofs.General as General
 use Rattle.flash_runs.proofs.General.{Then, Opening, constructing, telling, releasing, working, Parts, Running, isBusy, Flash, flashOf, Place, place, decide, decideNext, general}
 use Rattle.flash_runs.proofs.Filling.{Fills}
@@ -72,6 +72,17 @@ Asks (ret a) = ⊥
 Asks (fail e) = ⊥
 Asks (ask t k) = Unit {0}
 
+module _ {F C S A : Type 0} (driver : Driver F C S A) (s : S) (c : C) (b d : ℕ) where
+  -- what the call works on is within the bounds
+  abbrev pub Bounds : Type 0
+  Bounds = driver .inBounds (worksOn (driver .sort c b d) s) ≡ true
+
+  -- a call that takes the buffer fills it place after place, and no other call reads into it
+  abbrev pub LendsAs : Takes → Type 0
+  LendsAs Takes.Nothing = Bounded bufferReads 0 (driver .program s c b d)
+  LendsAs (Takes.Buffer n) = (n ≡ b) × Fills (driver .reads) b 0 (driver .program s c b d)
+  LendsAs (Takes.Data n) = Bounded bufferReads 0 (driver .program s c b d)
+
 -- on a driver that holds s, with a buffer of b bytes and data of d; Valid where a call can stand, Built in which phases one that is
 -- no construction, meaning what is left of its program
 module _ {F C S P A : Type 0} (driver : Driver F C S A) (parts : Parts S P A C) (Valid : Place S P → Type 0) (Built : P → Type 0) (meaning : Place S P → ℕ → Prog (Left S A)) where
@@ -110,28 +121,28 @@ module _ {F C S P A : Type 0} (driver : Driver F C S A) (parts : Parts S P A C) 
     OpensAs releasing = Release
     OpensAs (working takes then) = Use takes then
 
-    -- a call that takes the buffer fills it place after place, and no other call reads into it
-    abbrev pub LendsAs : Takes → Type 0
-    LendsAs Takes.Nothing = Bounded bufferReads 0 program
-    LendsAs (Takes.Buffer n) = (n ≡ b) × Fills (driver .reads) b 0 program
-    LendsAs (Takes.Data n) = Bounded bufferReads 0 program
-
-  -- what the call works on is within the bounds
-  abbrev pub Bounds : S → C → ℕ → ℕ → Type 0
-  Bounds s c b d = driver .inBounds (worksOn (driver .sort c b d) s) ≡ true
-
   pub record Supplies : Type 0 where
     pub simulates : Simulates Valid (decideNext parts) meaning
     pub opens : (s : S) (c : C) (b d : ℕ) → OpensAs s c b d (parts .opening s c b d)
     pub stays : (s : S) (phase : P) (o : Outcome) → Built phase → Stays Built s (parts .next s phase o)
     -- what the programs come to: the bill and that it is reached, the actions, a good end
-    pub bounded : (s : S) (c : C) (b d : ℕ) → Bounds s c b d → Bounded delays (driver .delayBound s c b d) (driver .program s c b d)
-    pub acts : (s : S) (c : C) (b d : ℕ) → Bounds s c b d → Bounded actions (driver .actionBound s c b d) (driver .program s c b d)
-    pub reached : (s : S) (c : C) (b : ℕ) (given : List ℕ) → Bounds s c b (length given) → AllBytes given → Asks (driver .program s c b (length given)) →
+    pub bounded : (s : S) (c : C) (b d : ℕ) → Bounds driver s c b d → Bounded delays (driver .delayBound s c b d) (driver .program s c b d)
+    pub acts : (s : S) (c : C) (b d : ℕ) → Bounds driver s c b d → Bounded actions (driver .actionBound s c b d) (driver .program s c b d)
+    pub reached : (s : S) (c : C) (b : ℕ) (given : List ℕ) → Bounds driver s c b (length given) → AllBytes given → Asks (driver .program s c b (length given)) →
         Reaches given delays (driver .delayBound s c b (length given)) (driver .program s c b (length given))
-    pub endsWell : (s : S) (c : C) (b : ℕ) (given : List ℕ) → Bounds s c b (length given) → AllBytes given → Asks (driver .program s c b (length given)) →
+    pub endsWell : (s : S) (c : C) (b : ℕ) (given : List ℕ) → Bounds driver s c b (length given) → AllBytes given → Asks (driver .program s c b (length given)) →
         driver .canEnd s c b (length given) ≡ true → (n : ℕ) × (left : Left S A) × Ends given delays n left (driver .program s c b (length given))
-    pub lent : (s : S) (c : C) (b d : ℕ) → Bounds s c b d → LendsAs s c b d (takesOf (driver .sort c b d))
+    pub lent : (s : S) (c : C) (b d : ℕ) → Bounds driver s c b d → LendsAs driver s c b d (takesOf (driver .sort c b d))
+
+-- all that is known of a driver
+pub record Known {F C S A : Type 0} (driver : Driver F C S A) : Type 1 where
+  pub P : Type 0
+  pub parts : Parts S P A C
+  pub Valid : Place S P → Type 0
+  pub Built : P → Type 0
+  pub meaning : Place S P → ℕ → Prog (Left S A)
+  pub supplies : Supplies driver parts Valid Built meaning
+  pub is : Is driver parts
 
 -- where validity is a matter of what the driver holds, a call that keeps it stays valid
 pub onward-stays : {S P A : Type 0} (Valid : Place S P → Type 0) (Built : P → Type 0) (s : S) → ((phase : P) → Built phase → Valid (place s phase)) →

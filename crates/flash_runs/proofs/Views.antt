@@ -23,14 +23,33 @@ use Rattle.flash_runs.specs.Driver.{Left, leaving, Sort, constructs, tel
 use Rattle.flash_runs.specs.Promises.{GivesAction, Begun}
 use Rattle.flash_runs.specs.SameAsRust.{Ready, Usable}
 use Rattle.flash_runs.proofs.General as General
-use Rattle.flash_runs.proofs.General.{Then, Opening, constructing, telling, releasing, working, Parts, Job, jobOf, Running, idle, busy, isBusy, Flash, flashOf, Place, place, decide, decideNext, Step, settled, told, opened, freed, constructed, begun, openedAs, beginAt, general}
-use Rattle.flash_runs.proofs.Supplies.{Is, Stays, Selects, SelectsFirst, Construction, Accessor, Release, Use, OpensAs, Supplies}
+use Rattle.flash_runs.proofs.General.{Then, Opening, constructing, telling, releasing, working, Parts, jobOf, Running, idle, busy, isBusy, Flash, flashOf, Place, place, decide, decideNext, Step, settled, told, opened, freed, constructed, begun, openedAs, general}
+use Rattle.flash_runs.proofs.Supplies.{Stays, Selects, Construction, Accessor, Release, Use, OpensAs, Known}
 use Rattle.flash_runs.proofs.Runs.{machine-runs, viewed, same-run, same-call}
 
 pub true≢false : true ≡ false → ⊥
 true≢false h = let z : _≡_ {A = ℕ} 0 1 = cc in omega arith
 
-module _ {F C S P A : Type 0} (driver : Driver F C S A) (parts : Parts S P A C) (Valid : Place S P → Type 0) (Built : P → Type 0) (meaning : Place S P → ℕ → Prog (Left S A)) where
+module _ {F C S A : Type 0} {driver : Driver F C S A} (known : Known driver) where
+  abbrev P : Type 0
+  P = known .P
+
+  abbrev parts : Parts S P A C
+  parts = known .parts
+
+  abbrev Valid : Place S P → Type 0
+  Valid = known .Valid
+
+  abbrev Built : P → Type 0
+  Built = known .Built
+
+  abbrev meaning : Place S P → ℕ → Prog (Left S A)
+  meaning = known .meaning
+
+  -- a state of the driver as the general one has it
+  abbrev pub shape : F → Flash S P
+  shape = viewed driver parts (known .is)
+
   abbrev pub driven : System (Flash S P) C (Left S A)
   driven = general parts (driver .inBounds)
 
@@ -79,7 +98,7 @@ module _ {F C S P A : Type 0} (driver : Driver F C S A) (parts : Parts S P A C) 
 
   -- ---- on a driver at rest
 
-  module _ (supplies : Supplies driver parts Valid Built meaning) (setup : S) (built : Bool) (delivered : ℕ) (c : C) (l : Lent) where
+  module _ (setup : S) (built : Bool) (delivered : ℕ) (c : C) (l : Lent) where
     abbrev flash : Flash S P
     flash = flashOf setup built delivered idle
 
@@ -222,76 +241,74 @@ module _ {F C S P A : Type 0} (driver : Driver F C S A) (parts : Parts S P A C) 
     opening-usable (telling answer) is a ready bounds = inl (tells-it answer a is (subst ReadyAs (a .sorted) ready))
     opening-usable releasing is r ready bounds = inl (frees-it r is (subst ReadyAs (r .sorted) ready))
 
-    known : Knows (parts .opening setup c buffer given)
-    known = supplies .opens setup c buffer given
+    begins-as : Knows (parts .opening setup c buffer given)
+    begins-as = known .supplies .opens setup c buffer given
 
     at-rest : View
-    at-rest = opening-view (parts .opening setup c buffer given) refl known
+    at-rest = opening-view (parts .opening setup c buffer given) refl begins-as
 
     usable-at-rest : ReadyAs (sortAt driver c l) → driver .inBounds (worksOn (sortAt driver c l) setup) ≡ true → Result
-    usable-at-rest = opening-usable (parts .opening setup c buffer given) refl known
+    usable-at-rest = opening-usable (parts .opening setup c buffer given) refl begins-as
 
   -- ---- on every driver
 
-  module _ (supplies : Supplies driver parts Valid Built meaning) where
-    -- a call begun during another has no run
-    view-at : (setup : S) (built : Bool) (delivered : ℕ) (running : Running P) (c : C) (l : Lent) →
-        Nothing-begun (flashOf setup built delivered running) c l ⊎ Opens (flashOf setup built delivered running) c l
-    unfolding runOf
-    view-at s u n idle c l = at-rest supplies s u n c l
-    view-at s u n (busy job) c l = inl (record { none = λ es. refl; no-action = λ h. h })
+  -- a call begun during another has no run
+  view-at : (setup : S) (built : Bool) (delivered : ℕ) (running : Running P) (c : C) (l : Lent) →
+      Nothing-begun (flashOf setup built delivered running) c l ⊎ Opens (flashOf setup built delivered running) c l
+  unfolding runOf
+  view-at s u n idle c l = at-rest s u n c l
+  view-at s u n (busy job) c l = inl (record { none = λ es. refl; no-action = λ h. h })
 
-    pub general-view : (flash : Flash S P) (c : C) (l : Lent) → Nothing-begun flash c l ⊎ Opens flash c l
-    general-view flash c l = view-at (flash .setup) (flash .built) (flash .delivered) (flash .running) c l
+  pub general-view : (flash : Flash S P) (c : C) (l : Lent) → Nothing-begun flash c l ⊎ Opens flash c l
+  general-view flash c l = view-at (flash .setup) (flash .built) (flash .delivered) (flash .running) c l
 
-    module _ (is : Is driver parts) where
-      pub view : (flash : F) (c : C) (l : Lent) → Nothing-begun (viewed driver parts is flash) c l ⊎ Opens (viewed driver parts is flash) c l
-      view flash c l = general-view (viewed driver parts is flash) c l
+  pub view : (flash : F) (c : C) (l : Lent) → Nothing-begun (shape flash) c l ⊎ Opens (shape flash) c l
+  view flash c l = general-view (shape flash) c l
 
-      -- a call that has given out an action
-      pub begun-opens : (flash : F) (c : C) (l : Lent) → Begun driver flash c l → Opens (viewed driver parts is flash) c l
-      begun-opens flash c l h = ⊎-elim (λ n. absurd (n .no-action (subst GivesAction (is .begins flash c l .given) h))) (λ o. o) (view flash c l)
+  -- a call that has given out an action
+  pub begun-opens : (flash : F) (c : C) (l : Lent) → Begun driver flash c l → Opens (shape flash) c l
+  begun-opens flash c l h = ⊎-elim (λ n. absurd (n .no-action (subst GivesAction (known .is .begins flash c l .given) h))) (λ o. o) (view flash c l)
 
-      ready-as : (flash : F) (c : C) (l : Lent) (x : Sort S) → Ready driver x flash l → ReadyAs supplies (driver .setup flash) (driver .built flash) (is .count flash) c l x
-      ready-as flash c l (constructs fresh) h = h
-      ready-as flash c l tells h = h
-      ready-as flash c l releases h = h
-      ready-as flash c l (uses takes) h = h
+  ready-as : (flash : F) (c : C) (l : Lent) (x : Sort S) → Ready driver x flash l → ReadyAs (driver .setup flash) (driver .built flash) (known .is .count flash) c l x
+  ready-as flash c l (constructs fresh) h = h
+  ready-as flash c l tells h = h
+  ready-as flash c l releases h = h
+  ready-as flash c l (uses takes) h = h
 
-      usable-at : (running : Running P) (flash : F) (c : C) (l : Lent) → isBusy running ≡ false → Usable driver flash c l →
-          let f = flashOf (driver .setup flash) (driver .built flash) (is .count flash) running in Answered f c l ⊎ Opens f c l
-      usable-at idle flash c l free h =
-          usable-at-rest supplies (driver .setup flash) (driver .built flash) (is .count flash) c l (ready-as flash c l (sortAt driver c l) (h .ready)) (h .bounds)
-      usable-at (busy job) flash c l free h = absurd (true≢false free)
+  usable-at : (running : Running P) (flash : F) (c : C) (l : Lent) → isBusy running ≡ false → Usable driver flash c l →
+      let f = flashOf (driver .setup flash) (driver .built flash) (known .is .count flash) running in Answered f c l ⊎ Opens f c l
+  usable-at idle flash c l free h =
+      usable-at-rest (driver .setup flash) (driver .built flash) (known .is .count flash) c l (ready-as flash c l (sortAt driver c l) (h .ready)) (h .bounds)
+  usable-at (busy job) flash c l free h = absurd (true≢false free)
 
-      pub usable : (flash : F) (c : C) (l : Lent) → Usable driver flash c l → Answered (viewed driver parts is flash) c l ⊎ Opens (viewed driver parts is flash) c l
-      usable flash c l h = usable-at (is .running flash) flash c l (sym (is .runs flash) ∙ h .idle) h
+  pub usable : (flash : F) (c : C) (l : Lent) → Usable driver flash c l → Answered (shape flash) c l ⊎ Opens (shape flash) c l
+  usable flash c l h = usable-at (known .is .running flash) flash c l (sym (known .is .runs flash) ∙ h .idle) h
 
-      -- its run is the machine's
-      pub no-run : (flash : F) {c : C} {l : Lent} → Nothing-begun (viewed driver parts is flash) c l → (es : List (Event C)) → runAt driver flash c l es ≡ []
-      no-run flash {c} {l} n es = same-run driver parts is flash c l es ∙ n .none es
+  -- its run is the machine's
+  pub no-run : (flash : F) {c : C} {l : Lent} → Nothing-begun (shape flash) c l → (es : List (Event C)) → runAt driver flash c l es ≡ []
+  no-run flash {c} {l} n es = same-run driver parts (known .is) flash c l es ∙ n .none es
 
-      pub opens-steps : {flash : Flash S P} {c : C} {l : Lent} (o : Opens flash c l) (es : List (Event C)) → runOf driven flash c l es ≡
-          entry (call c l) (settle (takesAt driver c l) (more (o .first) (o .at)) l) ∷ goesOn driven (runningAt (o .at) (o .built) (takesAt driver c l) (o .first)) es
-      unfolding runOf settled
-      opens-steps {flash} {c} {l} o es = ap (λ m. begunWith driven (m .given) c l m es) (o .is)
+  pub opens-steps : {flash : Flash S P} {c : C} {l : Lent} (o : Opens flash c l) (es : List (Event C)) → runOf driven flash c l es ≡
+      entry (call c l) (settle (takesAt driver c l) (more (o .first) (o .at)) l) ∷ goesOn driven (runningAt (o .at) (o .built) (takesAt driver c l) (o .first)) es
+  unfolding runOf settled
+  opens-steps {flash} {c} {l} o es = ap (λ m. begunWith driven (m .given) c l m es) (o .is)
 
-      abbrev onMachine : {flash : Flash S P} {c : C} {l : Lent} → Opens flash c l → List (Event C) → List (Run.Entry C (Left S A))
-      onMachine {c = c} {l} o es =
-          entry (call c l) (settle (takesAt driver c l) (more (o .first) (o .at)) l) ∷
-          goesOn (machine (decideNext parts) C) (out (takesAt driver c l) (o .at) (firstOf (o .first))) es
+  abbrev onMachine : {flash : Flash S P} {c : C} {l : Lent} → Opens flash c l → List (Event C) → List (Run.Entry C (Left S A))
+  onMachine {c = c} {l} o es =
+      entry (call c l) (settle (takesAt driver c l) (more (o .first) (o .at)) l) ∷
+      goesOn (machine (decideNext parts) C) (out (takesAt driver c l) (o .at) (firstOf (o .first))) es
 
-      pub opens-run : (flash : F) {c : C} {l : Lent} (o : Opens (viewed driver parts is flash) c l) (es : List (Event C)) → runAt driver flash c l es ≡ onMachine o es
-      opens-run flash {c} {l} o es =
-          same-run driver parts is flash c l es
-          ∙ opens-steps o es
-          ∙ ap (λ xs. entry (call c l) (settle (takesAt driver c l) (more (o .first) (o .at)) l) ∷ xs)
-          (machine-runs parts (driver .inBounds) (runningAt (o .at) (o .built) (takesAt driver c l) (o .first)) es)
+  pub opens-run : (flash : F) {c : C} {l : Lent} (o : Opens (shape flash) c l) (es : List (Event C)) → runAt driver flash c l es ≡ onMachine o es
+  opens-run flash {c} {l} o es =
+      same-run driver parts (known .is) flash c l es
+      ∙ opens-steps o es
+      ∙ ap (λ xs. entry (call c l) (settle (takesAt driver c l) (more (o .first) (o .at)) l) ∷ xs)
+      (machine-runs parts (driver .inBounds) (runningAt (o .at) (o .built) (takesAt driver c l) (o .first)) es)
 
-      pub opens-call : (flash : F) {c : C} {l : Lent} (o : Opens (viewed driver parts is flash) c l) (es : List (Event C)) → stepsAt driver flash c l es ≡ onMachine o es
-      unfolding callOf settled
-      opens-call flash {c} {l} o es =
-          same-call driver parts is flash c l es
-          ∙ ap (λ m. opening c l m ∷ goesOn driven (m .flash) es) (o .is)
-          ∙ ap (λ xs. entry (call c l) (settle (takesAt driver c l) (more (o .first) (o .at)) l) ∷ xs)
-          (machine-runs parts (driver .inBounds) (runningAt (o .at) (o .built) (takesAt driver c l) (o .first)) es)
+  pub opens-call : (flash : F) {c : C} {l : Lent} (o : Opens (shape flash) c l) (es : List (Event C)) → stepsAt driver flash c l es ≡ onMachine o es
+  unfolding callOf settled
+  opens-call flash {c} {l} o es =
+      same-call driver parts (known .is) flash c l es
+      ∙ ap (λ m. opening c l m ∷ goesOn driven (m .flash) es) (o .is)
+      ∙ ap (λ xs. entry (call c l) (settle (takesAt driver c l) (more (o .first) (o .at)) l) ∷ xs)
+      (machine-runs parts (driver .inBounds) (runningAt (o .at) (o .built) (takesAt driver c l) (o .first)) es)

@@ -4,6 +4,7 @@ use native.Mathlib.Omega.{arith}
 use mathlib.Core.Bool.{true, false, not}
 use mathlib.Core.Path.{_≡_, refl, ap}
 use mathlib.Core.List.{List}
+use lib.Bits.{bitOr}
 use lib.Dec.{ltb, eqb, lit<}
 use lib.ListN.{length}
 use borrow.Author.Tests.{leb-true, ltb-true, eqb-true, eq-eqb, le-ltb}
@@ -16,7 +17,7 @@ use Rattle.spi_flash.proofs.Laws.{ends-ret, ends-bind, ends-then, ends-eq, ends
 use Rattle.spi_flash.proofs.Loops.{ends-loop}
 use Rattle.spi_flash.proofs.Replies.{byte, zeros, delivery, same-bytes}
 use Rattle.spi_nand.specs.Config.{inBounds}
-use Rattle.spi_nand.specs.Status.{writeEnabledOf, eraseFailedOf, programFailedOf, verdictOf, statusOf, configurationOf, protectionOf, quadEnabledOf, withBits, sameConfiguration, blockProtectBits, isUnlocked}
+use Rattle.spi_nand.specs.Status.{WRITE-ENABLED, QUAD-ENABLE, OPERATIONAL, BLOCK-PROTECT-MASK, configurationByte, writeEnabledOf, eraseFailedOf, programFailedOf, verdictOf, statusOf, configurationOf, protectionOf, quadEnabledOf, withBits, sameConfiguration, blockProtectBits, isUnlocked}
 use Rattle.spi_nand.specs.declared.config.GeometrySetting.{GeometrySetting}
 use Rattle.spi_nand.specs.declared.config.NandInit.{NandInit}
 use Rattle.spi_nand.specs.declared.config.QuadSetting.{QuadSetting}
@@ -26,7 +27,7 @@ use Rattle.spi_nand.proofs.Geometries.{geometries-hold}
 use Rattle.nand_phases.specs.Setup.{initOf}
 use Rattle.nand_phases.specs.Transfer.{cacheReadAt, cacheReadTransfer, cacheLoadAt, cacheLoadTransfer, inCache, inRange}
 use Rattle.nand_phases.specs.declared.setup.Setup.{Setup}
-use Rattle.nand_rust.specs.Rust.{MAX-VERIFY-PAGE-SIZE, read-register, read-status, read-configuration, read-protection, write-enable, write-register, disable-quad, reset, id-of, jedec-id, reset-and-identify, ensure-configuration, unprotect, bring-up, load-page, page-read, read-cache, load-program-data, program-execute, read-page, write-page, erase-block, reading, read, is-bad-block, filling, mark-bad-block, resolved, constructed, with-config}
+use Rattle.nand_rust.specs.Rust.{MAX-VERIFY-PAGE-SIZE, read-register, read-status, read-configuration, read-protection, write-enable, write-register, disable-quad, reset, id-of, jedec-id, reset-and-identify, wanted-of, ensure-configuration, unprotect, bring-up, load-page, page-read, read-cache, load-program-data, program-execute, read-page, write-page, erase-block, reading, read, is-bad-block, filling, mark-bad-block, resolved, constructed, with-config}
 use Rattle.nand_rust.specs.Program.{pageTaken, refused-page}
 use Rattle.nand_rust.specs.Bound.{pagesTouched, fillers}
 use Rattle.nand_rust.specs.ProgramBounds.{PageFits, BlockFits, WholePage}
@@ -42,7 +43,7 @@ GOOD = 0xFF
 
 -- what a construction finds on these replies
 abbrev pub found : NandInit
-found = initOf (id-of 0) (configurationOf 0) (configurationOf 0) (protectionOf 0x7C)
+found = initOf (id-of 0) (configurationOf 0) (configurationOf 0) (protectionOf BLOCK-PROTECT-MASK)
 
 module _ (given : List ℕ) where
   -- ---- registers
@@ -64,7 +65,7 @@ module _ (given : List ℕ) where
 
   pub ends-enable : Ends given delays 0 tt write-enable
   unfolding write-enable writeEnabledOf
-  ends-enable = ends-then (ends-transfer 0 refl) (ends-bind _ (ends-status 0x02 (lit< tt)) (ends-refuse _ _ refl))
+  ends-enable = ends-then (ends-transfer 0 refl) (ends-bind _ (ends-status WRITE-ENABLED (lit< tt)) (ends-refuse _ _ refl))
 
   pub ends-write-register : (register value : ℕ) → Ends given delays 10000 tt (write-register register value)
   unfolding write-register
@@ -74,7 +75,7 @@ module _ (given : List ℕ) where
   pub ends-disable-quad : Ends given delays 10000 tt disable-quad
   unfolding disable-quad quadEnabledOf
   ends-disable-quad =
-      ends-bind _ (ends-configuration 0x01 (lit< tt))
+      ends-bind _ (ends-configuration QUAD-ENABLE (lit< tt))
       (ends-then (ends-write-register _ _) (ends-bind _ (ends-configuration 0 (lit< tt)) (ends-refuse _ _ refl)))
 
   pub ends-reset : Ends given delays 500000 tt reset
@@ -89,23 +90,28 @@ module _ (given : List ℕ) where
   unfolding reset-and-identify
   ends-identify = ends-then ends-reset ends-jedec-id
 
-  -- configuration 00 becomes 18, with quad 19
+  -- configuration 00 becomes operational, with quad where that is asked for
   pub ends-ensure : (config : SpiNandConfig) → Ends given delays 10000 (configurationOf 0) (ensure-configuration config)
   unfolding ensure-configuration withBits sameConfiguration
   ends-ensure config = by (config .quad)
     where
-      by : (q : QuadSetting) → Ends given delays 10000 (configurationOf 0) (ensure-configuration (record { quad = q; geometry = config .geometry }))
-      by QuadSetting.Single =
-          ends-bind _ (ends-configuration 0 (lit< tt))
-          (ends-then (ends-then (ends-write-register _ _) (ends-bind _ (ends-configuration 0x18 (lit< tt)) (ends-refuse _ _ refl))) ends-ret)
-      by (QuadSetting.Quad q) =
-          ends-bind _ (ends-configuration 0 (lit< tt))
-          (ends-then (ends-then (ends-write-register _ _) (ends-bind _ (ends-configuration 0x19 (lit< tt)) (ends-refuse _ _ refl))) ends-ret)
+      -- the wanted byte comes back
+      becomes : (q : QuadSetting) (after : ℕ) → after < 256 →
+          not (sameConfiguration (wanted-of (record { quad = q; geometry = config .geometry }) (configurationOf 0)) (configurationOf 0)) ≡ true →
+          not (sameConfiguration (configurationOf (after % 256)) (wanted-of (record { quad = q; geometry = config .geometry }) (configurationOf 0))) ≡ false →
+          Ends given delays 10000 (configurationOf 0) (ensure-configuration (record { quad = q; geometry = config .geometry }))
+      becomes q after small other same =
+          ends-bind _ {c = 10000} (ends-configuration 0 (lit< tt))
+          (rw other (ends-then (ends-then (ends-write-register _ _) (ends-bind _ (ends-configuration after small) (ends-refuse _ _ same))) ends-ret))
 
-  -- protection 7C is locked
-  pub ends-unprotect : Ends given delays 10000 (protectionOf 0x7C) unprotect
+      by : (q : QuadSetting) → Ends given delays 10000 (configurationOf 0) (ensure-configuration (record { quad = q; geometry = config .geometry }))
+      by QuadSetting.Single = becomes QuadSetting.Single (configurationByte OPERATIONAL) (lit< tt) refl refl
+      by (QuadSetting.Quad q) = becomes (QuadSetting.Quad q) (bitOr (configurationByte OPERATIONAL) QUAD-ENABLE) (lit< tt) refl refl
+
+  -- every block is protected
+  pub ends-unprotect : Ends given delays 10000 (protectionOf BLOCK-PROTECT-MASK) unprotect
   unfolding unprotect isUnlocked blockProtectBits
-  ends-unprotect = ends-bind _ (ends-protection 0x7C (lit< tt)) (ends-then (ends-write-register _ _) ends-ret)
+  ends-unprotect = ends-bind _ (ends-protection BLOCK-PROTECT-MASK (lit< tt)) (ends-then (ends-write-register _ _) ends-ret)
 
   -- ---- construction, on the id 0
 

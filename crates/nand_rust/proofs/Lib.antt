@@ -7,6 +7,7 @@ pub mod Bounds
 pub mod Ends
 pub mod Reaches
 pub mod ProgramBounds
+pub mod Begins
 pub mod SeenCalls
 pub mod SeenRead
 pub mod LeastDelay

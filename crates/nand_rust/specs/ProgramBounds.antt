@@ -25,7 +25,8 @@ BlockFits flash block = ltb block (flash .geometry .«block_count») ≡ true
 abbrev pub WholePage : Setup → ℕ → Type 0
 WholePage flash n = eqb n (flash .geometry .«page_size») ≡ true
 
--- the call is not turned away before it uses the bus, with a buffer of b bytes and data of d bytes
+-- the call is not turned away before it uses the bus, with a buffer of b bytes and data of d bytes; the Rust turns no construction
+-- away there, and the port only for its geometry (12)
 abbrev pub Begins : Setup → Call → ℕ → ℕ → Type 0
 Begins flash Call.New b d = Unit {0}
 Begins flash (Call.WithConfig config) b d = Unit {0}

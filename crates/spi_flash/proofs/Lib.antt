@@ -12,6 +12,4 @@ pub mod Reach
 pub mod OnBus
 pub mod Performs
 pub mod Select
-pub mod Filling
-pub mod Buffer
 pub mod Unread

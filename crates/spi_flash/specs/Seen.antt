@@ -1,11 +1,9 @@
--- What is seen of a run from outside: what its steps give, the bytes read, the caller's buffer, and select.
-use Prim.Native.Nat.{ℕ, _+_}
+-- What is seen of a run from outside: what its steps give, the caller's buffer, and select.
+use Prim.Native.Nat.{ℕ}
 use mathlib.Core.Bool.{Bool, true, false}
 use mathlib.Core.Path.{_≡_}
-use mathlib.Core.List.{List, [], _∷_, _++_}
-use lib.ListN.{length, drop}
+use mathlib.Core.List.{List, [], _∷_}
 use Rattle.qspi.specs.Shown.{Shown, low, high, write, read, quadRead, quadWrite, delay}
-use Rattle.qspi.specs.declared.bus.Reply.{Reply}
 use Rattle.spi_flash.specs.Loan.{Lent}
 use Rattle.spi_flash.specs.Run.{Event, reply, call, Given, act, ended, failed, refused, Entry, Answer}
 
@@ -63,46 +61,7 @@ unfoldable pub Undisturbed : {C A : Type 0} → List ℕ → List (Entry C A) �
 Undisturbed buffer [] = Unit {0}
 Undisturbed buffer (x ∷ xs) = Taken (x .given) (lentTo (x .event) .buffer ≡ buffer) × Undisturbed (unlessRefused (x .given) (x .left .buffer) buffer) xs
 
--- ---- the bytes read
-
--- the bytes of a data reply
-abbrev pub dataAt : Reply → List ℕ → List ℕ
-dataAt Reply.Done bytes = []
-dataAt Reply.Data bytes = bytes
-dataAt (Reply.Error code) bytes = []
-
-abbrev pub dataIn : {C : Type 0} → Event C → List ℕ
-dataIn (reply r bytes l) = dataAt r bytes
-dataIn (call c l) = []
-
--- those that a step has taken
-abbrev pub readBy : {C A : Type 0} → Entry C A → List ℕ
-readBy x = unlessRefused (x .given) (dataIn (x .event)) []
-
-unfoldable pub bytesRead : {C A : Type 0} → List (Entry C A) → List ℕ
-bytesRead [] = []
-bytesRead (x ∷ xs) = readBy x ++ bytesRead xs
-
 -- ---- the caller's buffer
-
--- as long, and the same from place n on
-pub record SameFrom (n : ℕ) (xs ys : List ℕ) : Type 0 where
-  pub size : length xs ≡ length ys
-  pub kept : drop n xs ≡ drop n ys
-
--- "its steps change only the places of the bytes read so far": n of them before these steps
-unfoldable pub ChangesRead : {C A : Type 0} → ℕ → List (Entry C A) → Type 0
-ChangesRead n [] = Unit {0}
-ChangesRead n (x ∷ xs) = SameFrom (n + length (readBy x)) (x .left .buffer) (lentTo (x .event) .buffer) × ChangesRead (n + length (readBy x)) xs
-
--- bytes at the places from 0 on, and the old ones behind them
-abbrev pub inFront : List ℕ → List ℕ → List ℕ
-inFront bytes old = bytes ++ drop (length bytes) old
-
--- "the buffer holds those bytes at their places and its old bytes elsewhere", after each step that is not refused
-unfoldable pub HoldsRead : {C A : Type 0} → List ℕ → List ℕ → List (Entry C A) → Type 0
-HoldsRead old bytes [] = Unit {0}
-HoldsRead old bytes (x ∷ xs) = Taken (x .given) (x .left .buffer ≡ inFront (bytes ++ readBy x) old) × HoldsRead old (bytes ++ readBy x) xs
 
 -- no step changes it
 unfoldable pub KeepsBuffer : {C A : Type 0} → List (Entry C A) → Type 0
