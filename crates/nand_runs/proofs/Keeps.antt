@@ -43,7 +43,8 @@ use Rattle.nand_steps.specs.Page.{uncorrectable, pageReadThen, isBadThen, accep
 use Rattle.nand_steps.specs.Read.{readFrom, readThen}
 use Rattle.nand_steps.specs.Block.{isBad, eraseThen, afterErase, erasedThen, markerThen, fillFrom}
 use Rattle.nand_steps.specs.declared.then.Then.{Then}
-use Rattle.nand_next.specs.Next.{enabledThen, latchedThen, resetThen, resumeTask, waitThen, identifyThen, answeredThen, afterPhase, nextOf}
+use Rattle.nand_next.specs.Wait.{resetThen, resumeTask, waitThen}
+use Rattle.nand_next.specs.Next.{enabledThen, latchedThen, identifyThen, answeredThen, afterPhase, nextOf}
 use Rattle.flash_runs.proofs.Supplies.{Stays}
 use Rattle.nand_runs.proofs.Places.{thenAs, decide, Valid}
 

@@ -50,7 +50,8 @@ use Rattle.nand_steps.specs.Page.{loadThen, pageReadThen, isBadThen, acceptedTh
 use Rattle.nand_steps.specs.Read.{readFrom}
 use Rattle.nand_steps.specs.Block.{eraseThen, afterErase, erasedThen, markerThen, fillFrom}
 use Rattle.nand_steps.specs.declared.then.Then.{Then}
-use Rattle.nand_next.specs.Next.{enabledThen, latchedThen, resetThen, resumeTask, waitThen, identifyThen, answeredThen, afterPhase, nextOf}
+use Rattle.nand_next.specs.Wait.{resetThen, resumeTask, waitThen}
+use Rattle.nand_next.specs.Next.{enabledThen, latchedThen, identifyThen, answeredThen, afterPhase, nextOf}
 use Rattle.spi_nand.specs.declared.config.QuadSetting.{QuadSetting}
 use Rattle.spi_nand.specs.declared.config.NandJedecId.{NandJedecId}
 use Rattle.nand_rust.specs.Rust.{Nothing, MAX-VERIFY-PAGE-SIZE, quad-wanted, wanted-of, uncorrectable, read-status, read-configuration, read-protection, wait-ready, write-enable, write-register, reset, jedec-id, load-page, page-read, read-cache, load-program-data, program-execute, read-page, erase-block, reading, is-bad-block, filling}

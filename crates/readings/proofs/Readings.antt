@@ -3,10 +3,16 @@ use mathlib.Core.Path.{refl}
 use Rattle.spi_nor.specs.Config.{capacityBytesOf, fromJedec}
 use Rattle.nor_phases.specs.Transfer.{multipleOf, stepKind, afterUnit}
 use Rattle.nor_runs.specs.Bound.{delayBound}
+use Rattle.spi_nand.specs.Config.{capacityOf, inBounds}
 use Rattle.spi_nand.specs.Opcode.{timingsOf}
 use Rattle.spi_nand.specs.Status.{verdictOf, withBits, blockProtectBits, isUnlocked}
+use Rattle.nand_phases.specs.Transfer.{inRange, placeOf, chunkOf}
+use Rattle.nand_steps.specs.Read.{readFrom, readThen}
+use Rattle.nand_next.specs.Opening.{openingOf}
+use Rattle.nand_driver.specs.Call.{openedOf, begunOf, idleOf, beginOf}
+use Rattle.nand_driver.specs.Step.{settledOf}
 use Rattle.readings.specs.Readings.{ReadingsHold}
 
 pub readings-hold : ReadingsHold
-unfolding capacityBytesOf fromJedec multipleOf stepKind afterUnit delayBound timingsOf verdictOf withBits blockProtectBits isUnlocked
+unfolding capacityBytesOf fromJedec multipleOf stepKind afterUnit delayBound timingsOf verdictOf withBits blockProtectBits isUnlocked capacityOf inBounds inRange placeOf chunkOf readFrom readThen openingOf openedOf begunOf idleOf beginOf settledOf
 readings-hold = record { all = refl }

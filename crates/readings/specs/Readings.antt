@@ -2,7 +2,7 @@
 use Prim.Native.Nat.{ℕ}
 use mathlib.Core.Path.{_≡_}
 use mathlib.Core.Bool.{Bool, true, false}
-use mathlib.Core.List.{List, [], _∷_, map}
+use mathlib.Core.List.{List, [], _∷_, _++_, map}
 use lib.Bits.{bitOr}
 use Rattle.qspi.specs.Command.{commandBytes}
 use Rattle.spi_flash.specs.WaitLaw.{largestSum, looks}
@@ -17,8 +17,17 @@ use Rattle.nor_driver.specs.declared.state.Call.{Call}
 use Rattle.spi_nand.specs.Opcode.{timingsOf}
 use Rattle.spi_nand.specs.Command.{pageReadCommand}
 use Rattle.spi_nand.specs.Status.{statusOf, verdictNumber, verdictOf, QUAD-ENABLE, BUFFER-READ, ECC-ENABLE, OPERATIONAL, configurationOf, configurationByte, withBits, protectionOf, isUnlocked}
+use Rattle.spi_nand.specs.Config.{W25N01GV, singleConfig as singleNand}
 use Rattle.spi_nand.specs.declared.opcode.Operation.{Operation}
 use Rattle.spi_nand.specs.declared.status.Configuration.{Configuration}
+use Rattle.nand_phases.specs.Transfer.{placeOf, pageAt, columnAt, chunkOf}
+use Rattle.nand_phases.specs.declared.call.Call.{Call as NandCall}
+use Rattle.nand_driver.specs.Answer.{endingNumber}
+use Rattle.nand_driver.specs.Call.{freshSetup as freshNand, beginOf}
+use Rattle.nand_driver.specs.Step.{flashOf}
+use Rattle.nand_driver.specs.declared.state.Given.{Given}
+use Rattle.nand_driver.specs.declared.state.Running.{Running}
+use Rattle.nand_driver.specs.declared.state.SpiNandFlash.{SpiNandFlash}
 
 -- the numbers that the definitions give, and those of the document
 pub record Reading : Type 0 where
@@ -80,6 +89,35 @@ configuration =
     (configurationByte (wanted (configurationOf 0x00)) ∷ configurationByte (wantedQuad (configurationOf 0x00)) ∷ [])
     (0x18 ∷ 0x19 ∷ [])
 
+-- "W25N01GV read of 2 at 2,047: page 0 column 2,047, then page 1 column 0, one byte each": of the piece behind so many bytes its page,
+-- its column and its length
+abbrev pub pieceBehind : ℕ → List ℕ
+pieceBehind done =
+    pageAt W25N01GV (placeOf 2047 done) ∷ columnAt W25N01GV (placeOf 2047 done) ∷ chunkOf W25N01GV 2047 2 done ∷ []
+
+abbrev pub nandRead : Reading
+nandRead = reading (pieceBehind 0 ++ pieceBehind 1) (0 ∷ 2047 ∷ 1 ∷ 1 ∷ 0 ∷ 1 ∷ [])
+
+-- "Length 0 at 134,217,728 succeeds without actions; length 1 there is 5": on a W25N01GV that is built, what is given at once (0 an
+-- action, 1 success, 2 a failure, 3 a refusal) and its number
+abbrev pub builtNand : SpiNandFlash
+builtNand = flashOf (freshNand singleNand) true 0 Running.Idle
+
+abbrev pub kindGiven : Given → ℕ
+kindGiven (Given.Act action) = 0
+kindGiven (Given.Ended answer) = 1
+kindGiven (Given.Failed error) = 2
+kindGiven (Given.Refused error) = 3
+
+abbrev pub readAtEnd : ℕ → Given
+readAtEnd n = beginOf builtNand (NandCall.Read 134217728) 264 n 0 .given
+
+abbrev pub nandEnd : Reading
+nandEnd =
+    reading
+    (kindGiven (readAtEnd 0) ∷ endingNumber (readAtEnd 0) ∷ kindGiven (readAtEnd 1) ∷ endingNumber (readAtEnd 1) ∷ [])
+    (1 ∷ 0 ∷ 3 ∷ 5 ∷ [])
+
 -- "Unknown NOR code 0x10 has 65,536 bytes"
 abbrev pub norCode : Reading
 norCode = reading (unknownNor 0x10 .capacity ∷ []) (65536 ∷ [])
@@ -127,6 +165,8 @@ readings =
     ∷ verdicts
     ∷ protection
     ∷ configuration
+    ∷ nandRead
+    ∷ nandEnd
     ∷ norCode
     ∷ norFallback
     ∷ norErase
