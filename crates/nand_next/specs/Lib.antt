@@ -1,2 +1,3 @@
+pub mod Wait
 pub mod Next
 pub mod Opening

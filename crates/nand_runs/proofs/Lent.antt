@@ -34,13 +34,12 @@ use Rattle.nand_phases.proofs.Pieces.{chunk-within}
 use Rattle.nand_phases.specs.declared.call.Call.{Call}
 use Rattle.nand_phases.specs.declared.setup.Setup.{Setup}
 use Rattle.nand_rust.specs.Rust.{uncorrectable, read-status, wait-ready, load-page, page-read, read-cache, read-page, reading, read}
+use Rattle.nand_rust.specs.Observer.{readsCache}
 use Rattle.nand_rust.specs.Program.{Left, pageTaken, rustProgram, programOf}
 use Rattle.nand_rust.proofs.ReadLoop.{chunk-some, reading-loop}
 use Rattle.nand_rust.proofs.Weights.{taking, Weighs, bounded-status, bounded-configuration, bounded-protection, bounded-enable, bounded-write-register, bounded-disable-quad, bounded-reset, bounded-jedec-id, bounded-identify, bounded-ensure, bounded-unprotect, bounded-page-read, bounded-load-data, bounded-execute, bounded-write-page, bounded-erase, bounded-is-bad, bounded-mark, bounded-with-config, bounded-refused-page}
-use Rattle.nand_runs.specs.Run.{sortOf, readsCache, nandDriver}
-use Rattle.nand_runs.proofs.Places.{parts, Valid}
-use Rattle.nand_runs.proofs.Keeps.{Built}
-use Rattle.nand_runs.proofs.Meaning.{DONE, meaning}
+use Rattle.nand_runs.specs.Run.{sortOf, nandDriver}
+use Rattle.nand_runs.proofs.Meaning.{DONE}
 use Rattle.nand_runs.proofs.Simulation.{bind-assoc}
 
 -- ---- no other call reads into the buffer
@@ -161,7 +160,7 @@ module _ (s : Setup) where
 
 -- ---- every call
 
-pub lent : (s : Setup) (c : Call) (b d : ℕ) → Bounds nandDriver parts Valid Built meaning s c b d → LendsAs nandDriver parts Valid Built meaning s c b d (takesOf (sortOf c b d))
+pub lent : (s : Setup) (c : Call) (b d : ℕ) → Bounds nandDriver s c b d → LendsAs nandDriver s c b d (takesOf (sortOf c b d))
 unfolding sortOf rustProgram
 lent s Call.New b d h = answered _ (omega arith) (bounded-with-config unread-figures 0 (omega arith) singleConfig)
 lent s (Call.WithConfig config) b d h = construction-unread s config b d

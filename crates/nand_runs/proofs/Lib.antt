@@ -7,4 +7,5 @@ pub mod Openings
 pub mod Opens
 pub mod Is
 pub mod Lent
+pub mod Known
 pub mod Promises

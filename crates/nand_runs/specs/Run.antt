@@ -1,8 +1,7 @@
 -- The NAND driver as it is stepped, and what the statements need to know of it.
 use Prim.Native.Nat.{ℕ}
 use mathlib.Core.Bool.{Bool, true, false}
-use mathlib.Core.List.{List, [], _∷_}
-use lib.Dec.{eqb}
+use mathlib.Core.List.{List}
 use lib.ListN.{length}
 use Rattle.qspi.specs.Shown.{shownOf}
 use Rattle.spi_flash.specs.Loan.{Lent}
@@ -12,7 +11,6 @@ use Rattle.spi_flash.specs.Run.{System}
 use Rattle.spi_flash.specs.declared.loan.Takes.{Takes}
 use Rattle.flash_runs.specs.Driver.{leaving, Sort, constructs, tells, releases, uses, Driver}
 use Rattle.spi_nand.specs.Config.{inBounds, singleConfig}
-use Rattle.spi_nand.specs.Opcode.{READ-CACHE}
 use Rattle.nand_answers.specs.Answer.{answerValues}
 use Rattle.nand_answers.specs.declared.answer.Answer.{Answer}
 use Rattle.nand_phases.specs.declared.call.Call.{Call}
@@ -24,6 +22,7 @@ use Rattle.nand_driver.specs.declared.state.Running.{Running}
 use Rattle.nand_driver.specs.declared.state.SpiNandFlash.{SpiNandFlash}
 use Rattle.nand_driver.specs.declared.state.Stepped.{Stepped}
 use Rattle.nand_rust.specs.Bound.{delayBound, actionBound}
+use Rattle.nand_rust.specs.Observer.{readsCache}
 use Rattle.nand_rust.specs.Program.{Left, programOf}
 use Rattle.nand_rust.specs.ProgramBounds.{canEnd}
 
@@ -89,12 +88,7 @@ sortOf (Call.Read offset) b d = uses (Takes.Buffer b)
 sortOf (Call.IsBadBlock block) b d = uses Takes.Nothing
 sortOf (Call.MarkBadBlock block) b d = uses Takes.Nothing
 
--- "Its data replies answer reads from the chip's cache, not of a register": the command tells
-abbrev pub readsCache : List ℕ → Bool
-readsCache [] = false
-readsCache (c ∷ rest) = eqb c READ-CACHE
-
--- all that the statements speak of
+-- the NAND driver, of which specs/Promises.antt of flash_runs speaks; what it reads from the cache is the caller's
 abbrev pub nandDriver : Driver SpiNandFlash Call Setup Answer
 nandDriver =
     record {

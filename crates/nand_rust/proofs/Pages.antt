@@ -13,7 +13,7 @@ use Rattle.spi_nand.specs.Config.{pageCountOf, firstPageOf, capacityOf, cacheSi
 use Rattle.spi_nand.specs.declared.config.NandGeometry.{NandGeometry}
 use Rattle.spi_nand.proofs.Geometries.{geometries-hold}
 use Rattle.nand_phases.specs.Transfer.{inCache, inRange, placeOf, pageAt, columnAt, chunkOf, FILLER-CHUNK, fillerOf}
-use Rattle.nand_rust.specs.Bound.{pagesTouched, fillers}
+use Rattle.nand_rust.specs.Bound.{firstTouched, lastTouched, pagesTouched, fillers}
 use Rattle.nand_rust.proofs.FillLoop.{filler-cases}
 
 -- ---- numbers
@@ -103,7 +103,7 @@ module _ (g : NandGeometry) (bounds : inBounds g ≡ true) where
   unfolding pagesTouched
   no-pages offset len z = rw z
 
-  pub from-to : (offset len : ℕ) → 1 ≤ len → pagesTouched g offset len ≡ (offset + len - 1) / page - offset / page + 1
+  pub from-to : (offset len : ℕ) → 1 ≤ len → pagesTouched g offset len ≡ lastTouched g offset len - firstTouched g offset + 1
   unfolding pagesTouched
   from-to offset len least = rw (ne-eqb len 0 (λ z. omega arith))
 

@@ -1,0 +1,61 @@
+use Rattle.nand_driver.specs.Call.{idleOf}
+use borrow.Author.Needs.{needs}
+use Rattle.nand_driver.proofs.call.idle.Statement.{statement}
+use Rattle.nand_driver.proofs.call.idle.Tie as tie
+
+enum-known-opening : tie.Need-enum-known-opening
+enum-known-opening c = search needs
+
+construct-requires : tie.Need-construct-requires
+construct-requires c κs = search needs
+
+enum-known-opening-2 : tie.Need-enum-known-opening-2
+enum-known-opening-2 c = search needs
+
+told-requires : tie.Need-told-requires
+told-requires c κs = search needs
+
+enum-told : tie.Need-enum-told
+enum-told c = search needs
+
+freed-requires : tie.Need-freed-requires
+freed-requires c κs = search needs
+
+enum-known-opening-3 : tie.Need-enum-known-opening-3
+enum-known-opening-3 c = search needs
+
+begun-requires : tie.Need-begun-requires
+begun-requires c κs = search needs
+
+returns : tie.Need-returns
+unfolding idleOf
+returns c = simp (c .before .before .opening .given .1, ← c .construct .ensures)
+
+returns-2 : tie.Need-returns-2
+unfolding idleOf
+returns-2 c = simp (c .before .before .opening2 .given .1, ← c .told .ensures)
+
+returns-3 : tie.Need-returns-3
+unfolding idleOf
+returns-3 c = simp (c .before .enum-told .given .1, ← c .freed .ensures)
+
+returns-4 : tie.Need-returns-4
+unfolding idleOf
+returns-4 c = simp (c .before .before .opening3 .given .1, ← c .begun .ensures)
+
+pub idle-spec : {M : Type 1} → statement M
+idle-spec =
+    tie.close
+    (tie.spec
+    enum-known-opening
+    construct-requires
+    enum-known-opening-2
+    told-requires
+    enum-told
+    freed-requires
+    enum-known-opening-3
+    begun-requires
+    returns
+    returns-2
+    returns-3
+    returns-4)

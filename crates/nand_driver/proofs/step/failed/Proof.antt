@@ -1,0 +1,12 @@
+use borrow.Author.Needs.{needs}
+use Rattle.nand_driver.proofs.step.failed.Statement.{statement}
+use Rattle.nand_driver.proofs.step.failed.Tie as tie
+
+flash-of-requires : tie.Need-flash-of-requires
+flash-of-requires c κs = search needs
+
+returns : tie.Need-returns
+returns c = simp (← c .flash-of .ensures)
+
+pub failed-spec : {M : Type 1} → statement M
+failed-spec = tie.close (tie.spec flash-of-requires returns)

@@ -1,0 +1,43 @@
+use Rattle.nand_driver.specs.Step.{stepOf}
+use borrow.Author.Needs.{needs}
+use Rattle.nand_driver.proofs.step.step.Statement.{statement}
+use Rattle.nand_driver.proofs.step.step.Tie as tie
+
+enum-told : tie.Need-enum-told
+enum-told c = search needs
+
+refused-requires : tie.Need-refused-requires
+refused-requires c κs = search needs
+
+enum-known-running : tie.Need-enum-known-running
+enum-known-running c = search needs
+
+proceed-requires : tie.Need-proceed-requires
+proceed-requires c κs = search needs
+
+returns : tie.Need-returns
+unfolding stepOf
+returns c = simp (c .before .enum-told .given .1, ← c .refused .ensures)
+
+same-length : tie.Need-same-length
+same-length c = search needs
+
+same-length-2 : tie.Need-same-length-2
+same-length-2 c = search needs
+
+returns-2 : tie.Need-returns-2
+unfolding stepOf
+returns-2 c = simp (c .before .before .before .before .before .before .before .before .running .given .1, ← c .before .before .before .before .proceed .ensures)
+
+pub step-spec : {M : Type 1} → statement M
+step-spec =
+    tie.close
+    (tie.spec
+    enum-told
+    refused-requires
+    enum-known-running
+    proceed-requires
+    returns
+    same-length
+    same-length-2
+    returns-2)

@@ -1,0 +1,171 @@
+// How a call begins, and how it is turned away.
+use crate::state::Given;
+use crate::state::Running;
+use crate::state::SpiNandFlash;
+use crate::state::Stepped;
+use crate::step;
+use nand_answers::answer::Answer;
+use nand_next::opening;
+use nand_next::opening::Opening;
+use nand_phases::call::Call;
+use nand_phases::phase::Phase;
+use nand_phases::setup::Setup;
+use nand_steps::go;
+use nand_steps::then::Then;
+use qspi::command::SCRATCH_LEN;
+use qspi::transfer::Transfer;
+use spi_flash::error::FlashError;
+use spi_flash::loan::Takes;
+use spi_nand::config::GeometrySetting;
+use spi_nand::config::NandGeometry;
+use spi_nand::config::NandInit;
+use spi_nand::config::SpiNandConfig;
+ghost use mathlib.Core.Path.{_≡_};
+ghost use lib.ListN.{length};
+ghost use Rattle.nand_driver.specs.Call.{notBuilt, givenGeometry, freshSetup, constructedOf, toldOf, freedOf, openedOf, begunOf, idleOf, beginOf};
+
+impl SpiNandFlash {
+    // A driver before any construction.
+    pub fn not_built() -> SpiNandFlash
+        ensures { λ r. ⌜ r ≡ notBuilt ⌝ }
+    {
+        step::flash_of(fresh(SpiNandConfig::single()), false, 0, Running::Idle)
+    }
+}
+
+// ---- construction
+
+// The geometry before the id is known.
+fn given_geometry(config: SpiNandConfig) -> NandGeometry
+    ensures { λ r. ⌜ r ≡ givenGeometry config ⌝ }
+{
+    let geometry = config.geometry;
+    match geometry {
+        GeometrySetting::Detect => NandGeometry::W25N01GV,
+        GeometrySetting::Given(g) => g,
+    }
+}
+
+fn fresh(config: SpiNandConfig) -> Setup
+    ensures { λ r. ⌜ r ≡ freshSetup config ⌝ }
+{
+    Setup {
+        config: config,
+        geometry: given_geometry(config),
+        init: NandInit::UNKNOWN,
+    }
+}
+
+fn construct(flash: SpiNandFlash, config: SpiNandConfig, scratch_len: usize) -> Stepped
+    ensures { λ r. ⌜ r ≡ constructedOf flash config «scratch_len» ⌝ }
+{
+    if scratch_len < SCRATCH_LEN {
+        return step::refused(flash, FlashError::Misfit);
+    }
+    if given_geometry(config).in_bounds() {
+        let setup = fresh(config);
+        return step::settle(
+            step::flash_of(setup, false, 0, Running::Idle),
+            Takes::Nothing,
+            go::go(setup, Transfer::Raise, Phase::Raised),
+        );
+    }
+    step::refused(flash, FlashError::InvalidGeometry)
+}
+
+// ---- accessors
+
+fn told(flash: SpiNandFlash, answer: Answer) -> Stepped
+    ensures { λ r. ⌜ r ≡ toldOf flash answer ⌝ }
+{
+    if flash.built {
+        return Stepped {
+            flash: flash,
+            given: Given::Ended(answer),
+        };
+    }
+    step::refused(flash, FlashError::OutOfTurn)
+}
+
+// The Rust gives its bus back, and nothing can be called on what it was.
+fn freed(flash: SpiNandFlash) -> Stepped
+    ensures { λ r. ⌜ r ≡ freedOf flash ⌝ }
+{
+    if flash.built {
+        let setup = flash.setup;
+        return Stepped {
+            flash: step::flash_of(setup, false, flash.delivered, Running::Idle),
+            given: Given::Ended(Answer::Done),
+        };
+    }
+    step::refused(flash, FlashError::OutOfTurn)
+}
+
+// ---- the other calls
+
+// What is turned away before its first action has not begun.
+fn opened(flash: SpiNandFlash, takes: Takes, then: Then) -> Stepped
+    ensures { λ r. ⌜ r ≡ openedOf flash takes then ⌝ }
+{
+    let setup = flash.setup;
+    match then {
+        Then::Fail(error) => return step::refused(flash, error),
+        _ => {
+            return step::settle(
+                step::flash_of(setup, flash.built, 0, Running::Idle),
+                takes,
+                then,
+            );
+        }
+    }
+}
+
+// 13, 14, 12, and then the Rust's own refusals.
+fn begun(flash: SpiNandFlash, scratch_len: usize, takes: Takes, then: Then) -> Stepped
+    ensures { λ r. ⌜ r ≡ begunOf flash «scratch_len» takes then ⌝ }
+{
+    let setup = flash.setup;
+    let geometry = setup.geometry;
+    if flash.built {
+        if scratch_len < SCRATCH_LEN {
+            return step::refused(flash, FlashError::Misfit);
+        }
+        if geometry.in_bounds() {
+            return opened(flash, takes, then);
+        }
+        return step::refused(flash, FlashError::InvalidGeometry);
+    }
+    step::refused(flash, FlashError::OutOfTurn)
+}
+
+// ---- every call
+
+fn idle(flash: SpiNandFlash, opening: Opening, scratch_len: usize) -> Stepped
+    ensures { λ r. ⌜ r ≡ idleOf flash opening «scratch_len» ⌝ }
+{
+    match opening {
+        Opening::Constructs(config) => return construct(flash, config, scratch_len),
+        Opening::Tells(answer) => return told(flash, answer),
+        Opening::Releases => return freed(flash),
+        Opening::Uses { takes, then } => return begun(flash, scratch_len, takes, then),
+    }
+}
+
+impl SpiNandFlash {
+    // Begins a call. Nothing lent changes: a command is put into the scratch only in a later step.
+    pub fn begin(self, call: Call, scratch: &[u8], buffer: &[u8], data: &[u8]) -> Stepped
+        ensures { λ r. ⌜ r ≡ beginOf self call (length (now (scratch .entry))) (length (now (buffer .entry))) (length (now («data» .entry))) ⌝ }
+    {
+        let running = self.running;
+        match running {
+            Running::Idle => {
+                return idle(
+                    self,
+                    opening::opening_of(self.setup, call, buffer.len(), data.len()),
+                    scratch.len(),
+                );
+            }
+            Running::Busy(_) => return step::refused(self, FlashError::OutOfTurn),
+        }
+    }
+}
