@@ -99,7 +99,7 @@ module _ (g : NandGeometry) (bounds : inBounds g ≡ true) where
 
   -- ---- the pages that are left
 
-  pub no-pages : (offset len : ℕ) → len ≡ 0 → pagesTouched g offset len ≡ 0
+  no-pages : (offset len : ℕ) → len ≡ 0 → pagesTouched g offset len ≡ 0
   unfolding pagesTouched
   no-pages offset len z = rw z
 

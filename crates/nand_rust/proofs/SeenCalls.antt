@@ -1,38 +1,35 @@
 -- What the observer sees of the Rust's functions that load a page and read from the cache.
-use Prim.Native.Nat.{ℕ, zero, suc, _+_, _*_, _/_, _%_, _^_, _<_}
+use Prim.Native.Nat.{ℕ, zero, suc, _+_, _/_, _%_, _^_, _<_}
 use native.Mathlib.Omega.{arith}
-use native.Mathlib.Nat.{zero-add, mod-eq-of-lt}
+use native.Mathlib.Nat.{zero-add}
 use mathlib.Core.Bool.{Bool, true, false, not}
 use mathlib.Core.Path.{_≡_, refl, ap, sym, _∙_, subst}
 use mathlib.Core.List.{List, [], _∷_, _++_, append-nil}
 use lib.Bits.{bitAnd}
 use lib.ListN.{length}
 use lib.Dec.{leb, ltb, eqb}
-use borrow.Author.Tests.{ne-eqb, eq-eqb}
-use Rattle.qspi.specs.Address.{readFrom, bigEndian}
-use Rattle.qspi.specs.Choice.{pick}
+use Rattle.qspi.specs.Address.{readFrom}
 use Rattle.qspi.specs.declared.transfer.Sink.{Sink}
 use Rattle.qspi.specs.declared.transfer.Transfer.{Transfer}
-use Rattle.qspi.proofs.Addresses.{address-bytes}
 use Rattle.qspi.proofs.Cases.{by-cases}
 use Rattle.spi_flash.specs.Bits.{isSet, isClear}
-use Rattle.spi_flash.specs.Prog.{Prog, ret, fail, _>>=_, _>>_, refuse, transfer}
-use Rattle.spi_flash.specs.WaitLaw.{lookAt, waitLoop, waiting, delayedWait}
+use Rattle.spi_flash.specs.Prog.{Prog, _>>_, transfer}
+use Rattle.spi_flash.specs.WaitLaw.{waitLoop, waiting, delayedWait}
 use Rattle.spi_flash.specs.declared.wait.Timings.{Timings}
 use Rattle.spi_flash.proofs.Bits.{any-bit, field}
 use Rattle.flash_runs.specs.Watch.{Watcher, closed}
 use Rattle.flash_runs.proofs.Watchers.{both, Got, got, behind-mine, reader}
 use Rattle.flash_runs.proofs.Watching.{Shows, shows-ret, shows-fail, shows-bind, shows-then, shows-refuse, shows-transfer}
-use Rattle.spi_nand.specs.Command.{pageReadCommand, readCacheCommand, quadReadCacheCommand, getFeatureCommand}
+use Rattle.spi_nand.specs.Command.{pageReadCommand, getFeatureCommand}
 use Rattle.spi_nand.specs.Config.{pageCountOf}
 use Rattle.spi_nand.specs.Opcode.{REG-STATUS, timingsOf}
-use Rattle.spi_nand.specs.Status.{BUSY, ECC-MASK, statusOf, busyOf, busyValue, verdictAt, verdictOf}
+use Rattle.spi_nand.specs.Status.{ECC-MASK, statusOf, busyOf, busyValue, verdictAt, verdictOf}
 use Rattle.spi_nand.specs.declared.config.QuadSetting.{QuadSetting}
 use Rattle.spi_nand.specs.declared.opcode.Operation.{Operation}
 use Rattle.spi_nand.specs.declared.status.Status.{Status}
 use Rattle.nand_phases.specs.Transfer.{registerTransfer, cacheReadAt, cacheReadTransfer, inCache}
 use Rattle.nand_phases.specs.declared.setup.Setup.{Setup}
-use Rattle.nand_rust.specs.Observer.{readsCache, Load, unloaded, waited, judged, other, ReadByte, Sight, loadAfter, verdictBits, verdictsAfter, bytesAt, observer}
+use Rattle.nand_rust.specs.Observer.{readsCache, Load, waited, judged, other, ReadByte, Sight, loadAfter, verdictBits, verdictsAfter, bytesAt, observer}
 use Rattle.nand_rust.specs.Observer as Observer
 use Rattle.nand_rust.specs.Rust.{read-status, wait-ready, load-page, uncorrectable, page-read, read-cache}
 

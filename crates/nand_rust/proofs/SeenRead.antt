@@ -1,18 +1,18 @@
 -- What the observer sees of the Rust's read: page after page, each loaded, judged and then read.
-use Prim.Native.Nat.{ℕ, zero, suc, _+_, _-_, _*_, _/_, _%_, _≤_, _<_}
+use Prim.Native.Nat.{ℕ, zero, suc, _+_, _-_, _*_, _/_, _≤_, _<_}
 use native.Mathlib.Omega.{arith}
 use native.Mathlib.Nat.{zero-add, add-zero, mod-lt, mod-eq-of-lt, mul-add-mod-self-right, div-add-mod', div-eq-of-lt-le, le-div-iff-mul-le}
 use native.Mathlib.Numerals.{add-one}
 use mathlib.Core.Bool.{Bool, true, false, not, Bool·not-not}
-use mathlib.Core.Path.{_≡_, refl, ap, ap₂, sym, _∙_, subst}
-use mathlib.Core.List.{List, [], _∷_, _++_, append-assoc}
+use mathlib.Core.Path.{_≡_, refl, ap, sym, _∙_}
+use mathlib.Core.List.{List, [], _∷_, _++_}
 use lib.ListN.{length, length-append}
 use lib.Dec.{ltb, eqb}
-use borrow.Author.Tests.{ltb-true, ltb-false, ne-eqb}
+use borrow.Author.Tests.{ltb-true, ltb-false}
 use Rattle.qspi.specs.declared.transfer.Sink.{Sink}
 use Rattle.qspi.proofs.Cases.{by-cases}
 use Rattle.spi_flash.specs.Path.{Prefix}
-use Rattle.spi_flash.specs.Prog.{Prog, ret, _>>=_, _>>_, refuse}
+use Rattle.spi_flash.specs.Prog.{ret, _>>_}
 use Rattle.flash_runs.proofs.Watching.{shows-ret, shows-then, shows-refuse}
 use Rattle.spi_nand.specs.Config.{inBounds}
 use Rattle.spi_nand.specs.declared.config.NandGeometry.{NandGeometry}
@@ -23,7 +23,7 @@ use Rattle.nand_rust.specs.Bound.{firstTouched, lastTouched, pagesTouche
 use Rattle.nand_rust.specs.Observer.{ReadByte, readByte, Load, judged, unloaded, bytesAt}
 use Rattle.nand_rust.specs.ReadSeen.{upFrom, touched, placed, NoneUncorrectable}
 use Rattle.nand_rust.specs.Rust.{page-read, read-cache, read-loop, reading, read}
-use Rattle.nand_rust.proofs.Pages.{pages, some-page, page-fits, in-range, from-to, no-pages, place-of, pagesLeft, pages-first, chunk-within, one-fewer, pages-done}
+use Rattle.nand_rust.proofs.Pages.{pages, some-page, page-fits, in-range, from-to, place-of, pagesLeft, pages-first, chunk-within, one-fewer, pages-done}
 use Rattle.nand_rust.proofs.ReadLoop.{chunk-some}
 use Rattle.nand_rust.proofs.SeenCalls.{Tally, loaded, verdictNoted, bytesCame, Sights, at, watcher, Q, Right, Sees, from, loading-page, reading-cache}
 

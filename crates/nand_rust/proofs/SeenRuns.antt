@@ -2,10 +2,8 @@
 use Prim.Native.Nat.{ℕ, _+_, _*_, _≤_}
 use native.Mathlib.Omega.{arith}
 use mathlib.Core.Bool.{true, false}
-use mathlib.Core.Logic.{⊎-elim}
-use mathlib.Core.Path.{_≡_, refl, ap, sym, _∙_, subst}
+use mathlib.Core.Path.{_≡_, ap, subst}
 use mathlib.Core.List.{List, [], _∷_}
-use lib.ListN.{length}
 use Rattle.frames.specs.Frame.{firstOf}
 use Rattle.frames.specs.declared.frame.Outcome.{Outcome}
 use Rattle.qspi.specs.declared.transfer.Transfer.{Transfer}
@@ -17,23 +15,16 @@ use Rattle.spi_flash.specs.Machine.{Decision, more, out, settle, machine, Simul
 use Rattle.spi_flash.specs.declared.loan.Takes.{Takes}
 use Rattle.spi_flash.proofs.Laws.{at-least-zero, at-least-then, at-least-eq}
 use Rattle.spi_flash.proofs.Runs.{first-delay, run-bound}
-use Rattle.spi_flash.proofs.Giving.{prefix-nil}
-use Rattle.flash_runs.specs.Driver.{Left, worksOn, Driver, sortAt, takesAt, programAt, boundAt, runAt}
-use Rattle.flash_runs.specs.Reading.{bytesRead}
 use Rattle.flash_runs.specs.Watch.{watched, Succeeded}
-use Rattle.flash_runs.proofs.General.{decideNext}
 use Rattle.flash_runs.proofs.Least.{run-least}
-use Rattle.flash_runs.proofs.Supplies.{Known}
-use Rattle.flash_runs.proofs.Views.{view, no-run, opens-run}
 use Rattle.flash_runs.proofs.Watchers.{both-watch, got, reader, reader-reads}
 use Rattle.flash_runs.proofs.Watching.{Shows, shows-ret, shows-then}
 use Rattle.flash_runs.proofs.WatchedRuns.{watches}
 use Rattle.spi_nand.specs.Config.{inBounds}
-use Rattle.spi_nand.specs.declared.config.NandGeometry.{NandGeometry}
 use Rattle.nand_phases.specs.declared.setup.Setup.{Setup}
 use Rattle.nand_rust.specs.Bound.{pagesTouched}
 use Rattle.nand_rust.specs.Observer.{readsCache, unseen, observer}
-use Rattle.nand_rust.specs.ReadSeen.{touched, sightOf, readSoFar, ReadSeen}
+use Rattle.nand_rust.specs.ReadSeen.{sightOf, readSoFar, ReadSeen}
 use Rattle.nand_rust.specs.Rust.{read}
 use Rattle.nand_rust.proofs.LeastDelay.{least-read}
 use Rattle.nand_rust.proofs.SeenCalls.{Sights, watcher, Q}
@@ -108,31 +99,3 @@ module _ (flash : Setup) (bounds : inBounds (flash .geometry) ≡ true) (offset 
             most = most;
           };
         }
-
--- nothing is seen of a call that has no run
-pub nothing-seen : {C A : Type 0} (g : NandGeometry) (offset len : ℕ) → ReadSeen {C = C} {A = A} [] g offset len
-unfolding watched bytesRead Succeeded
-nothing-seen g offset len = record { loads = prefix-nil (touched g offset len); reads = refl; inOrder = refl; whole = λ e. absurd e }
-
--- ---- a driver whose call does what read does
-
-module _ {F C A : Type 0} {driver : Driver F C Setup A} (known : Known driver) (flash : F) (c : C) (l : Lent) where
-  abbrev setup : Setup
-  setup = driver .setup flash
-
-  abbrev len : ℕ
-  len = length (l .buffer)
-
-  pub driver-seen : (offset : ℕ) (a : Left Setup A) → programAt driver setup c l ≡ (read setup offset len >> ret a) →
-      (driver .inBounds (worksOn (sortAt driver c l) setup) ≡ true → inBounds (setup .geometry) ≡ true) →
-      boundAt driver flash c l ≡ 400000 * pagesTouched (setup .geometry) offset len →
-      (es : List (Event C)) → ReadSeen (runAt driver flash c l es) (setup .geometry) offset len
-  driver-seen offset a program inside bill es =
-      ⊎-elim
-      (λ n. rw (no-run known flash {c = c} {l = l} n es) (nothing-seen (setup .geometry) offset len))
-      (λ o. rw (opens-run known flash {c = c} {l = l} o es)
-      (read-seen setup (inside (o .bounds)) offset len C (known .Valid) (decideNext (known .parts)) (known .meaning) (known .supplies .simulates) (takesAt driver c l)
-      (o .first) (o .at) (o .valid) a (sym program ∙ o .program)
-      (subst (λ b. Bounded delays b (read setup offset len >> ret a)) bill (subst (Bounded delays (boundAt driver flash c l)) program (known .supplies .bounded setup c len (length (l .given)) (o .bounds))))
-      c l es))
-      (view known flash c l)
