@@ -43,4 +43,4 @@ returns-2 c =
 
 pub opened-spec : {M : Type 1} → statement M
 opened-spec =
-    tie.close (tie.spec enum-known-then refused-requires flash-of-requires settle-requires returns returns-2)
+    tie.close (tie.spec enum-known-then refused-requires returns flash-of-requires settle-requires returns-2)
