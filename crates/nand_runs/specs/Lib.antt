@@ -1,2 +1,3 @@
 pub mod Rust
 pub mod Program
+pub mod Run
