@@ -2,16 +2,17 @@
 use Prim.Native.Nat.{ℕ, _+_, _≤_}
 use native.Mathlib.Omega.{arith}
 use mathlib.Core.Bool.{Bool, true, false}
-use mathlib.Core.Path.{_≡_}
 use Rattle.qspi.specs.Choice.{pick}
 use Rattle.qspi.specs.declared.transfer.Sink.{Sink}
 use Rattle.spi_flash.specs.Path.{delays, actions, Bounded}
 use Rattle.spi_flash.proofs.Laws.{bounded-more, bounded-ret}
-use Rattle.spi_nor.specs.Config.{singleConfig, inBoundsOf}
+use Rattle.flash_runs.proofs.Supplies.{Bounds}
+use Rattle.spi_nor.specs.Config.{singleConfig}
 use Rattle.nor_phases.specs.Transfer.{readAt, programAt, eraseOperation}
 use Rattle.spi_nor.specs.WaitTable.{largestOf}
 use Rattle.nor_runs.specs.Rust.{with-config}
 use Rattle.nor_runs.specs.Program.{programOf}
+use Rattle.nor_runs.specs.Run.{norDriver}
 use Rattle.nor_runs.specs.Bound.{pageTaken, quadBound, unitBound, delayBound, waitActions, unitActions, quadActions, actionBound}
 use Rattle.spi_nor.specs.declared.config.QuadSetting.{QuadSetting}
 use Rattle.spi_nor.specs.declared.config.SpiNorConfig.{SpiNorConfig}
@@ -46,31 +47,31 @@ unit-delays : (kind : EraseKind) → largestOf (eraseOperation kind) ≤ unitBou
 unit-delays EraseKind.Sector = omega arith
 unit-delays EraseKind.Block = omega arith
 
-pub bounded : (flash : Setup) → inBoundsOf (flash .device) ≡ true → (call : Call) (b d : ℕ) → Bounded delays (delayBound flash call d) (programOf flash call b d)
+pub bounded : (flash : Setup) (call : Call) (b d : ℕ) → Bounds norDriver flash call b d → Bounded delays (delayBound flash call d) (programOf flash call b d)
 unfolding programOf delayBound
-bounded flash h Call.New b d = answered _ (omega arith) (bounded-with-config delay-figures quadBound (λ q. omega arith) singleConfig 0 (omega arith))
-bounded flash h (Call.WithConfig config) b d =
+bounded flash Call.New b d h = answered _ (omega arith) (bounded-with-config delay-figures quadBound (λ q. omega arith) singleConfig 0 (omega arith))
+bounded flash (Call.WithConfig config) b d h =
     answered _ (omega arith) (bounded-with-config delay-figures quadBound (λ q. omega arith) config 0 (omega arith))
-bounded flash h Call.Config b d = bounded-ret
-bounded flash h Call.Device b d = bounded-ret
-bounded flash h Call.Id b d = bounded-ret
-bounded flash h Call.Free b d = bounded-ret
-bounded flash h Call.ReadStatus1 b d = answered _ (omega arith) (bounded-status1 delay-figures)
-bounded flash h Call.ReadStatus2 b d = answered _ (omega arith) (bounded-status2 delay-figures)
-bounded flash h Call.IsBusy b d = answered _ (omega arith) (bounded-is-busy delay-figures)
-bounded flash h Call.JedecId b d = answered _ (omega arith) (bounded-jedec-id delay-figures)
-bounded flash h Call.UniqueId b d = answered _ (omega arith) (bounded-unique-id delay-figures)
-bounded flash h Call.QuadEnabled b d = answered _ (omega arith) (bounded-quad-enabled delay-figures)
-bounded flash h Call.EnableQuad b d = ended _ (omega arith) (bounded-enable-quad delay-figures)
-bounded flash h Call.DisableQuad b d = ended _ (omega arith) (bounded-disable-quad delay-figures)
-bounded flash h (Call.Read offset) b d = ended _ (omega arith) (bounded-read delay-figures flash offset b)
-bounded flash h (Call.Write offset) b d =
+bounded flash Call.Config b d h = bounded-ret
+bounded flash Call.Device b d h = bounded-ret
+bounded flash Call.Id b d h = bounded-ret
+bounded flash Call.Free b d h = bounded-ret
+bounded flash Call.ReadStatus1 b d h = answered _ (omega arith) (bounded-status1 delay-figures)
+bounded flash Call.ReadStatus2 b d h = answered _ (omega arith) (bounded-status2 delay-figures)
+bounded flash Call.IsBusy b d h = answered _ (omega arith) (bounded-is-busy delay-figures)
+bounded flash Call.JedecId b d h = answered _ (omega arith) (bounded-jedec-id delay-figures)
+bounded flash Call.UniqueId b d h = answered _ (omega arith) (bounded-unique-id delay-figures)
+bounded flash Call.QuadEnabled b d h = answered _ (omega arith) (bounded-quad-enabled delay-figures)
+bounded flash Call.EnableQuad b d h = ended _ (omega arith) (bounded-enable-quad delay-figures)
+bounded flash Call.DisableQuad b d h = ended _ (omega arith) (bounded-disable-quad delay-figures)
+bounded flash (Call.Read offset) b d h = ended _ (omega arith) (bounded-read delay-figures flash offset b)
+bounded flash (Call.Write offset) b d h =
     let some = deviceBounds .accepted (flash .device) h .leastPage in
     ended _ (omega arith) (bounded-write delay-figures flash some offset d)
-bounded flash h Call.Unprotect b d = answered _ (omega arith) (bounded-unprotect delay-figures)
-bounded flash h (Call.Erase from to) b d = ended _ (omega arith) (bounded-erase delay-figures flash unitBound (λ kind. omega (arith, unit-delays kind)) from to)
-bounded flash h (Call.EraseSector offset) b d = ended _ (omega arith) (bounded-unit delay-figures flash EraseKind.Sector offset)
-bounded flash h (Call.EraseBlock offset) b d = ended _ (omega arith) (bounded-unit delay-figures flash EraseKind.Block offset)
+bounded flash Call.Unprotect b d h = answered _ (omega arith) (bounded-unprotect delay-figures)
+bounded flash (Call.Erase from to) b d h = ended _ (omega arith) (bounded-erase delay-figures flash unitBound (λ kind. omega (arith, unit-delays kind)) from to)
+bounded flash (Call.EraseSector offset) b d h = ended _ (omega arith) (bounded-unit delay-figures flash EraseKind.Sector offset)
+bounded flash (Call.EraseBlock offset) b d h = ended _ (omega arith) (bounded-unit delay-figures flash EraseKind.Block offset)
 
 -- ---- the actions
 
@@ -101,27 +102,27 @@ constructed config =
     bounded-more (omega (arith, part (pageTaken (config .device)) (quadActions (config .quad))))
     (bounded-with-config action-figures quadActions (λ q. omega arith) config 1 (omega arith))
 
-pub acts : (flash : Setup) → inBoundsOf (flash .device) ≡ true → (call : Call) (b d : ℕ) → Bounded actions (actionBound flash call b d) (programOf flash call b d)
+pub acts : (flash : Setup) (call : Call) (b d : ℕ) → Bounds norDriver flash call b d → Bounded actions (actionBound flash call b d) (programOf flash call b d)
 unfolding programOf actionBound
-acts flash h Call.New b d = answered _ (omega arith) (constructed singleConfig)
-acts flash h (Call.WithConfig config) b d = answered _ (omega arith) (constructed config)
-acts flash h Call.Config b d = bounded-ret
-acts flash h Call.Device b d = bounded-ret
-acts flash h Call.Id b d = bounded-ret
-acts flash h Call.Free b d = bounded-ret
-acts flash h Call.ReadStatus1 b d = answered _ (omega arith) (bounded-status1 action-figures)
-acts flash h Call.ReadStatus2 b d = answered _ (omega arith) (bounded-status2 action-figures)
-acts flash h Call.IsBusy b d = answered _ (omega arith) (bounded-is-busy action-figures)
-acts flash h Call.JedecId b d = answered _ (omega arith) (bounded-jedec-id action-figures)
-acts flash h Call.UniqueId b d = answered _ (omega arith) (bounded-unique-id action-figures)
-acts flash h Call.QuadEnabled b d = answered _ (omega arith) (bounded-quad-enabled action-figures)
-acts flash h Call.EnableQuad b d = ended _ (omega arith) (bounded-enable-quad action-figures)
-acts flash h Call.DisableQuad b d = ended _ (omega arith) (bounded-disable-quad action-figures)
-acts flash h (Call.Read offset) b d = ended _ (omega arith) (bounded-read action-figures flash offset b)
-acts flash h (Call.Write offset) b d =
+acts flash Call.New b d h = answered _ (omega arith) (constructed singleConfig)
+acts flash (Call.WithConfig config) b d h = answered _ (omega arith) (constructed config)
+acts flash Call.Config b d h = bounded-ret
+acts flash Call.Device b d h = bounded-ret
+acts flash Call.Id b d h = bounded-ret
+acts flash Call.Free b d h = bounded-ret
+acts flash Call.ReadStatus1 b d h = answered _ (omega arith) (bounded-status1 action-figures)
+acts flash Call.ReadStatus2 b d h = answered _ (omega arith) (bounded-status2 action-figures)
+acts flash Call.IsBusy b d h = answered _ (omega arith) (bounded-is-busy action-figures)
+acts flash Call.JedecId b d h = answered _ (omega arith) (bounded-jedec-id action-figures)
+acts flash Call.UniqueId b d h = answered _ (omega arith) (bounded-unique-id action-figures)
+acts flash Call.QuadEnabled b d h = answered _ (omega arith) (bounded-quad-enabled action-figures)
+acts flash Call.EnableQuad b d h = ended _ (omega arith) (bounded-enable-quad action-figures)
+acts flash Call.DisableQuad b d h = ended _ (omega arith) (bounded-disable-quad action-figures)
+acts flash (Call.Read offset) b d h = ended _ (omega arith) (bounded-read action-figures flash offset b)
+acts flash (Call.Write offset) b d h =
     let some = deviceBounds .accepted (flash .device) h .leastPage in
     ended _ (omega arith) (bounded-write action-figures flash some offset d)
-acts flash h Call.Unprotect b d = answered _ (omega arith) (bounded-unprotect action-figures)
-acts flash h (Call.Erase from to) b d = ended _ (omega arith) (bounded-erase action-figures flash unitActions (λ kind. omega arith) from to)
-acts flash h (Call.EraseSector offset) b d = ended _ (omega arith) (bounded-unit action-figures flash EraseKind.Sector offset)
-acts flash h (Call.EraseBlock offset) b d = ended _ (omega arith) (bounded-unit action-figures flash EraseKind.Block offset)
+acts flash Call.Unprotect b d h = answered _ (omega arith) (bounded-unprotect action-figures)
+acts flash (Call.Erase from to) b d h = ended _ (omega arith) (bounded-erase action-figures flash unitActions (λ kind. omega arith) from to)
+acts flash (Call.EraseSector offset) b d h = ended _ (omega arith) (bounded-unit action-figures flash EraseKind.Sector offset)
+acts flash (Call.EraseBlock offset) b d h = ended _ (omega arith) (bounded-unit action-figures flash EraseKind.Block offset)

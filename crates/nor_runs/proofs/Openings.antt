@@ -3,42 +3,35 @@ use Prim.Native.Nat.{ℕ}
 use native.Mathlib.Omega.{arith}
 use mathlib.Core.Bool.{Bool, true, false}
 use mathlib.Core.Path.{_≡_, refl, ap, sym, _∙_}
-use lib.ListN.{length}
 use lib.Dec.{ltb}
 use borrow.Author.Tests.{le-ltb}
 use Rattle.qspi.specs.Choice.{pick}
-use Rattle.frames.specs.ShownBytes.{startShown}
 use Rattle.qspi.specs.declared.transfer.Sink.{Sink}
 use Rattle.qspi.specs.declared.transfer.Transfer.{Transfer}
-use Rattle.spi_flash.specs.Loan.{Lent}
 use Rattle.spi_flash.specs.Prog.{Prog, ret, ask, _>>=_, _>>_, refuse}
 use Rattle.spi_flash.specs.Machine.{tree}
-use Rattle.spi_flash.specs.Seen.{selectAfter}
-use Rattle.spi_flash.specs.declared.error.FlashError.{FlashError}
 use Rattle.spi_flash.specs.declared.loan.Takes.{Takes}
 use Rattle.qspi.proofs.Cases.{by-cases}
+use Rattle.flash_runs.specs.Driver.{constructs, uses}
+use Rattle.flash_runs.proofs.General as General
+use Rattle.flash_runs.proofs.Supplies.{Selects, SelectsFirst, Construction, Use, OpensAs, onward-stays}
 use Rattle.spi_nor.specs.Config.{inBoundsOf, singleConfig}
-use Rattle.spi_nor.specs.Command.{readIdCommand, readUniqueIdCommand}
 use Rattle.spi_nor.specs.declared.config.QuadSetting.{QuadSetting}
 use Rattle.spi_nor.specs.declared.config.SpiNorConfig.{SpiNorConfig}
-use Rattle.nor_phases.specs.Transfer.{numberTransfer, placeOf, chunkOf, readAt, readTransfer, inRange, multipleOf, unitSize, stepKind, afterUnit}
-use Rattle.nor_next.specs.Next.{goTo, read1Then, read2Then, readThen, readFrom, writeThen, programFrom, eraseUnit, eraseThen, eraseFrom}
-use Rattle.nor_driver.specs.Step.{flashOf}
-use Rattle.nor_driver.specs.Call.{givenDevice, freshSetup, constructedOf, toldOf, freedOf, begunOf, openingOf, idleOf, beginOf}
+use Rattle.nor_phases.specs.Transfer.{placeOf, chunkOf, readAt, readTransfer, inRange, multipleOf, unitSize, stepKind, afterUnit}
+use Rattle.nor_next.specs.Next.{readThen, readFrom, writeThen, programFrom, eraseUnit, eraseOne, eraseThen, eraseFrom}
+use Rattle.nor_driver.specs.Call.{freshSetup, openingOf}
 use Rattle.nor_runs.specs.Rust.{read, write, erase-unit, erase, erasing}
 use Rattle.nor_runs.specs.Program.{Left, leaving, programOf}
-use Rattle.nor_runs.specs.Run.{constructs, tells, releases, uses, sortOf, begunAs, nor, takesOf}
-use Rattle.nor_runs.specs.ProgramBounds.{Begins, judgedSetup}
+use Rattle.nor_runs.specs.Run.{sortOf, norDriver}
 use Rattle.nor_phases.specs.declared.phase.EraseKind.{EraseKind}
 use Rattle.nor_phases.specs.declared.phase.Phase.{Phase}
 use Rattle.nor_answers.specs.declared.answer.Answer.{Answer}
 use Rattle.nor_driver.specs.declared.state.Call.{Call}
-use Rattle.nor_driver.specs.declared.state.Running.{Running}
 use Rattle.nor_phases.specs.declared.setup.Setup.{Setup}
-use Rattle.nor_driver.specs.declared.state.SpiNorFlash.{SpiNorFlash}
 use Rattle.nor_next.specs.declared.then.Then.{Then}
 use Rattle.nor_runs.proofs.Loops.{erasing-loop}
-use Rattle.nor_runs.proofs.Places.{place, decide, Stays}
+use Rattle.nor_runs.proofs.Places.{place, thenAs, decide, opens, norParts, Valid, Built, Stays}
 use Rattle.nor_runs.proofs.Keeps.{stays, keeps-read, keeps-program, keeps-unit, keeps-erase, keeps-pick}
 use Rattle.nor_runs.proofs.Simulation.{meaning, then-assoc, starts, reads-on, writes-on, erases-unit, erases-on, beginnings}
 
@@ -79,56 +72,7 @@ module _ (s : Setup) (valid : inBoundsOf (s .device) ≡ true) where
       ∙ ap (λ p. (erase-unit s kind offset >> p) >> ret (leaving s Answer.Done)) (sym (nothing-left (afterUnit (s .device) kind offset)))
       ∙ erases-unit s valid kind offset (afterUnit (s .device) kind offset)
 
--- ---- what is known of a beginning
-
--- select goes low with the first action
-abbrev pub Selects : Transfer → Type 0
-Selects t = (select : Bool) → selectAfter (startShown t) select ≡ selectAfter (startShown t) true
-
-abbrev pub SelectsFirst : Then → Type 0
-SelectsFirst (Then.Go s t phase) = Selects t
-SelectsFirst (Then.End s answer) = Unit {0}
-SelectsFirst (Then.Fail error) = Unit {0}
-
--- what goes to the bus has passed the Rust's tests
-no-go : {e : FlashError} {s : Setup} {t : Transfer} {p : Phase} → Then.Fail e ≡ Then.Go s t p → ⊥
-no-go h = let z : _≡_ {A = ℕ} 0 1 = cc in omega arith
-
-passed : (b : Bool) (x : Then) (e : FlashError) (s : Setup) (t : Transfer) (p : Phase) → pick b x (Then.Fail e) ≡ Then.Go s t p → (b ≡ true) × (x ≡ Then.Go s t p)
-passed true x e s t p h = (refl, h)
-passed false x e s t p h = absurd (no-go h)
-
-failed-not : (b : Bool) (x : Then) (e : FlashError) (s : Setup) (t : Transfer) (p : Phase) → pick b (Then.Fail e) x ≡ Then.Go s t p → (b ≡ false) × (x ≡ Then.Go s t p)
-failed-not true x e s t p h = absurd (no-go h)
-failed-not false x e s t p h = (refl, h)
-
-read-tested : (s : Setup) (offset len : ℕ) (s′ : Setup) (t : Transfer) (p : Phase) → readThen s offset len ≡ Then.Go s′ t p → inRange (s .device .capacity) offset len ≡ true
-unfolding readThen
-read-tested s offset len s′ t p h = passed _ _ _ s′ t p h .0
-
-write-tested : (s : Setup) (offset len : ℕ) (s′ : Setup) (t : Transfer) (p : Phase) → writeThen s offset len ≡ Then.Go s′ t p →
-    (inRange (s .device .capacity) offset len ≡ true) × (multipleOf offset (s .device .«page_size») ≡ true) × (multipleOf len (s .device .«page_size») ≡ true)
-unfolding writeThen
-write-tested s offset len s′ t p h =
-    let a = passed _ _ _ s′ t p h in
-    let b = passed _ _ _ s′ t p (a .1) in
-    (a .0, b .0, passed _ _ _ s′ t p (b .1) .0)
-
-erase-tested : (s : Setup) (from to : ℕ) (s′ : Setup) (t : Transfer) (p : Phase) → eraseThen s from to ≡ Then.Go s′ t p →
-    (ltb to from ≡ false) × (ltb (s .device .capacity) to ≡ false) × (multipleOf from (s .device .«sector_size») ≡ true) × (multipleOf to (s .device .«sector_size») ≡ true)
-unfolding eraseThen
-erase-tested s from to s′ t p h =
-    let a = failed-not _ _ _ s′ t p h in
-    let b = failed-not _ _ _ s′ t p (a .1) in
-    let c = passed _ _ _ s′ t p (b .1) in
-    (a .0, b .0, c .0, passed _ _ _ s′ t p (c .1) .0)
-
-unit-tested : (s : Setup) (kind : EraseKind) (address end : ℕ) (s′ : Setup) (t : Transfer) (p : Phase) → eraseUnit s kind address end ≡ Then.Go s′ t p →
-    (inRange (s .device .capacity) address (unitSize (s .device) kind) ≡ true) × (multipleOf address (unitSize (s .device) kind) ≡ true)
-unfolding eraseUnit
-unit-tested s kind address end s′ t p h =
-    let a = passed _ _ _ s′ t p h in
-    (a .0, passed _ _ _ s′ t p (a .1) .0)
+-- ---- what the driver holds
 
 keeps-read-call : (s : Setup) (offset len : ℕ) → Stays s (readThen s offset len)
 unfolding readThen
@@ -151,11 +95,14 @@ keeps-erase-call s from to =
 
 -- ---- the first action
 
-selects-pick : (b : Bool) (x y : Then) → SelectsFirst x → SelectsFirst y → SelectsFirst (pick b x y)
+abbrev Selecting : Then → Type 0
+Selecting x = SelectsFirst (thenAs x)
+
+selects-pick : (b : Bool) (x y : Then) → Selecting x → Selecting y → Selecting (pick b x y)
 selects-pick true x y h k = h
 selects-pick false x y h k = k
 
-selects-read : (s : Setup) (offset len : ℕ) → SelectsFirst (readThen s offset len)
+selects-read : (s : Setup) (offset len : ℕ) → Selecting (readThen s offset len)
 unfolding readThen readFrom readTransfer
 selects-read s offset len = selects-pick (inRange (s .device .capacity) offset len) _ _ (selects-pick (ltb 0 len) _ _ (at (s .config .quad)) tt) tt
   where
@@ -163,20 +110,20 @@ selects-read s offset len = selects-pick (inRange (s .device .capacity) offset l
     at QuadSetting.Single = λ select. refl
     at (QuadSetting.Quad q) = λ select. refl
 
-selects-write : (s : Setup) (offset len : ℕ) → SelectsFirst (writeThen s offset len)
+selects-write : (s : Setup) (offset len : ℕ) → Selecting (writeThen s offset len)
 unfolding writeThen programFrom
 selects-write s offset len =
     selects-pick (inRange (s .device .capacity) offset len) _ _
     (selects-pick (multipleOf offset (s .device .«page_size»)) _ _
     (selects-pick (multipleOf len (s .device .«page_size»)) _ _ (selects-pick (ltb 0 len) _ _ (λ select. refl) tt) tt) tt) tt
 
-selects-unit : (s : Setup) (kind : EraseKind) (address end : ℕ) → SelectsFirst (eraseUnit s kind address end)
+selects-unit : (s : Setup) (kind : EraseKind) (address end : ℕ) → Selecting (eraseUnit s kind address end)
 unfolding eraseUnit
 selects-unit s kind address end =
     selects-pick (inRange (s .device .capacity) address (unitSize (s .device) kind)) _ _
     (selects-pick (multipleOf address (unitSize (s .device) kind)) _ _ (λ select. refl) tt) tt
 
-selects-erase : (s : Setup) (from to : ℕ) → SelectsFirst (eraseThen s from to)
+selects-erase : (s : Setup) (from to : ℕ) → Selecting (eraseThen s from to)
 unfolding eraseThen eraseFrom
 selects-erase s from to =
     selects-pick (ltb to from) _ _ tt
@@ -186,195 +133,56 @@ selects-erase s from to =
 
 -- ---- every call
 
-module _ (setup : Setup) (built : Bool) (delivered : ℕ) (c : Call) (l : Lent) where
-  abbrev pub idle : SpiNorFlash
-  idle = flashOf setup built delivered Running.Idle
-
+module _ (s : Setup) (c : Call) (b d : ℕ) where
   abbrev program : Prog Left
-  program = programOf setup c (length (l .buffer)) (length (l .given))
+  program = programOf s c b d
 
   -- a call on a driver that is built
-  pub record Use : Type 0 where
-    pub sort : sortOf c ≡ uses
-    pub opening : Then
-    pub is : nor .begin idle c l ≡ begunAs (begunOf idle (length (l .scratch)) (takesOf c l) opening) l
-    pub follows : inBoundsOf (setup .device) ≡ true → program ≡ tree meaning (decide opening)
-    pub keeps : Stays setup opening
-    pub selects : SelectsFirst opening
-    pub judges : judgedSetup setup c ≡ setup
-    pub tested : (s′ : Setup) (t : Transfer) (phase : Phase) → opening ≡ Then.Go s′ t phase → Begins setup c (length (l .buffer)) (length (l .given))
+  used : (takes : Takes) (x : Then) → sortOf c b d ≡ uses takes → (inBoundsOf (s .device) ≡ true → program ≡ tree meaning (decide x)) → Stays s x → Selecting x →
+      Use norDriver norParts Valid Built meaning s c b d takes (thenAs x)
+  used takes x sorted follows keeps selects = record {
+    sorted = sorted;
+    follows = follows;
+    valid = λ inside. onward-stays Valid Built s (λ phase built. inside) (thenAs x) keeps;
+    stays = keeps;
+    selects = selects;
+  }
 
-  pub record Construction : Type 0 where
-    pub sort : sortOf c ≡ constructs
-    pub config : SpiNorConfig
-    pub is : nor .begin idle c l ≡ begunAs (constructedOf idle config (length (l .scratch))) l
-    pub takes : takesOf c l ≡ Takes.Nothing
-    pub follows : program ≡ ask Transfer.Raise (meaning (place (freshSetup config) Phase.Raised))
-    pub judges : judgedSetup setup c ≡ freshSetup config
-    pub tested : inBoundsOf (givenDevice config) ≡ true → Begins setup c (length (l .buffer)) (length (l .given))
+  -- one that begins with a transfer whatever it is asked for
+  transfers : (t : Transfer) (phase : Phase) → sortOf c b d ≡ uses Takes.Nothing → program ≡ ask t (meaning (place s phase)) → Built phase → Selects t →
+      Use norDriver norParts Valid Built meaning s c b d Takes.Nothing (General.go s t phase)
+  transfers t phase sorted follows built selects = used Takes.Nothing (Then.Go s t phase) sorted (λ inside. follows) (refl, built) selects
 
-  pub record Accessor : Type 0 where
-    pub sort : sortOf c ≡ tells
-    pub answer : Answer
-    pub is : nor .begin idle c l ≡ begunAs (toldOf idle answer) l
-    pub follows : program ≡ ret (leaving setup answer)
+  -- a single erase
+  unit-used : (kind : EraseKind) (offset : ℕ) → sortOf c b d ≡ uses Takes.Nothing → (inBoundsOf (s .device) ≡ true → program ≡ tree meaning (decide (eraseOne s kind offset))) →
+      Use norDriver norParts Valid Built meaning s c b d Takes.Nothing (thenAs (eraseOne s kind offset))
+  unit-used kind offset sorted follows =
+      let end = afterUnit (s .device) kind offset in
+      used Takes.Nothing (eraseOne s kind offset) sorted follows (keeps-unit (Stays s) s (stays s) kind offset end) (selects-unit s kind offset end)
 
-  pub record Release : Type 0 where
-    pub sort : sortOf c ≡ releases
-    pub is : nor .begin idle c l ≡ begunAs (freedOf idle) l
-    pub follows : program ≡ ret (leaving setup Answer.Done)
+  constructed : (config : SpiNorConfig) → sortOf c b d ≡ constructs (freshSetup config) → ((before : Setup) → programOf before c b d ≡ program) →
+      program ≡ ask Transfer.Raise (meaning (place (freshSetup config) Phase.Raised)) → Construction norDriver norParts Valid Built meaning s c b d (freshSetup config)
+  constructed config sorted alike follows = record { sorted = sorted; follows = λ inside. follows; valid = λ inside. inside; alike = alike }
 
-  pub data Opening : Type 0 where
-    usage : Use → Opening
-    construction : Construction → Opening
-    accessor : Accessor → Opening
-    release : Release → Opening
-
-pub opening-of : (setup : Setup) (built : Bool) (delivered : ℕ) (c : Call) (l : Lent) → Opening setup built delivered c l
-unfolding beginOf idleOf openingOf programOf
-opening-of s u n Call.New l = construction (record { sort = refl; config = singleConfig; is = refl; takes = refl; follows = beginnings s .construction singleConfig; judges = refl; tested = λ h. h })
-opening-of s u n (Call.WithConfig config) l = construction (record { sort = refl; config = config; is = refl; takes = refl; follows = beginnings s .construction config; judges = refl; tested = λ h. h })
-opening-of s u n Call.Config l = accessor (record { sort = refl; answer = Answer.Config (s .config); is = refl; follows = refl })
-opening-of s u n Call.Device l = accessor (record { sort = refl; answer = Answer.Device (s .device); is = refl; follows = refl })
-opening-of s u n Call.Id l = accessor (record { sort = refl; answer = Answer.Id (s .id); is = refl; follows = refl })
-opening-of s u n Call.Free l = release (record { sort = refl; is = refl; follows = refl })
-opening-of s u n Call.ReadStatus1 l = usage (record {
-  sort = refl;
-  opening = read1Then s Phase.Status1;
-  is = refl;
-  follows = λ h. beginnings s .status1;
-  keeps = (refl, tt);
-  selects = λ select. refl;
-  judges = refl;
-  tested = λ s′ t p e. tt;
-})
-opening-of s u n Call.ReadStatus2 l = usage (record {
-  sort = refl;
-  opening = read2Then s Phase.Status2;
-  is = refl;
-  follows = λ h. beginnings s .status2;
-  keeps = (refl, tt);
-  selects = λ select. refl;
-  judges = refl;
-  tested = λ s′ t p e. tt;
-})
-opening-of s u n Call.IsBusy l = usage (record {
-  sort = refl;
-  opening = read1Then s Phase.Busy;
-  is = refl;
-  follows = λ h. beginnings s .busy;
-  keeps = (refl, tt);
-  selects = λ select. refl;
-  judges = refl;
-  tested = λ s′ t p e. tt;
-})
-opening-of s u n Call.JedecId l = usage (record {
-  sort = refl;
-  opening = goTo s (numberTransfer readIdCommand 3) Phase.JedecId;
-  is = refl;
-  follows = λ h. beginnings s .id;
-  keeps = (refl, tt);
-  selects = λ select. refl;
-  judges = refl;
-  tested = λ s′ t p e. tt;
-})
-opening-of s u n Call.UniqueId l = usage (record {
-  sort = refl;
-  opening = goTo s (numberTransfer readUniqueIdCommand 8) Phase.UniqueId;
-  is = refl;
-  follows = λ h. beginnings s .uniqueId;
-  keeps = (refl, tt);
-  selects = λ select. refl;
-  judges = refl;
-  tested = λ s′ t p e. tt;
-})
-opening-of s u n Call.QuadEnabled l = usage (record {
-  sort = refl;
-  opening = read2Then s Phase.QuadEnabled2;
-  is = refl;
-  follows = λ h. beginnings s .quadEnabled;
-  keeps = (refl, tt);
-  selects = λ select. refl;
-  judges = refl;
-  tested = λ s′ t p e. tt;
-})
-opening-of s u n Call.EnableQuad l = usage (record {
-  sort = refl;
-  opening = read2Then s Phase.EnableCheck2;
-  is = refl;
-  follows = λ h. beginnings s .enableQuad;
-  keeps = (refl, tt);
-  selects = λ select. refl;
-  judges = refl;
-  tested = λ s′ t p e. tt;
-})
-opening-of s u n Call.DisableQuad l = usage (record {
-  sort = refl;
-  opening = read2Then s Phase.DisableRead2;
-  is = refl;
-  follows = λ h. beginnings s .disableQuad;
-  keeps = (refl, tt);
-  selects = λ select. refl;
-  judges = refl;
-  tested = λ s′ t p e. tt;
-})
-opening-of s u n (Call.Read offset) l = usage (record {
-  sort = refl;
-  opening = readThen s offset (length (l .buffer));
-  is = refl;
-  follows = λ h. reads s offset (length (l .buffer));
-  keeps = keeps-read-call s offset (length (l .buffer));
-  selects = selects-read s offset (length (l .buffer));
-  judges = refl;
-  tested = read-tested s offset (length (l .buffer));
-})
-opening-of s u n (Call.Write offset) l = usage (record {
-  sort = refl;
-  opening = writeThen s offset (length (l .given));
-  is = refl;
-  follows = λ h. writes s h offset (length (l .given));
-  keeps = keeps-write-call s offset (length (l .given));
-  selects = selects-write s offset (length (l .given));
-  judges = refl;
-  tested = write-tested s offset (length (l .given));
-})
-opening-of s u n Call.Unprotect l = usage (record {
-  sort = refl;
-  opening = read1Then s Phase.UnprotectRead1;
-  is = refl;
-  follows = λ h. beginnings s .unprotected;
-  keeps = (refl, tt);
-  selects = λ select. refl;
-  judges = refl;
-  tested = λ s′ t p e. tt;
-})
-opening-of s u n (Call.Erase from to) l = usage (record {
-  sort = refl;
-  opening = eraseThen s from to;
-  is = refl;
-  follows = λ h. erases s h from to;
-  keeps = keeps-erase-call s from to;
-  selects = selects-erase s from to;
-  judges = refl;
-  tested = erase-tested s from to;
-})
-opening-of s u n (Call.EraseSector offset) l = usage (record {
-  sort = refl;
-  opening = eraseUnit s EraseKind.Sector offset (afterUnit (s .device) EraseKind.Sector offset);
-  is = refl;
-  follows = λ h. erases-one s h EraseKind.Sector offset;
-  keeps = keeps-unit (Stays s) s (stays s) EraseKind.Sector offset (afterUnit (s .device) EraseKind.Sector offset);
-  selects = selects-unit s EraseKind.Sector offset (afterUnit (s .device) EraseKind.Sector offset);
-  judges = refl;
-  tested = unit-tested s EraseKind.Sector offset (afterUnit (s .device) EraseKind.Sector offset);
-})
-opening-of s u n (Call.EraseBlock offset) l = usage (record {
-  sort = refl;
-  opening = eraseUnit s EraseKind.Block offset (afterUnit (s .device) EraseKind.Block offset);
-  is = refl;
-  follows = λ h. erases-one s h EraseKind.Block offset;
-  keeps = keeps-unit (Stays s) s (stays s) EraseKind.Block offset (afterUnit (s .device) EraseKind.Block offset);
-  selects = selects-unit s EraseKind.Block offset (afterUnit (s .device) EraseKind.Block offset);
-  judges = refl;
-  tested = unit-tested s EraseKind.Block offset (afterUnit (s .device) EraseKind.Block offset);
-})
+pub opened : (s : Setup) (c : Call) (b d : ℕ) → OpensAs norDriver norParts Valid Built meaning s c b d (opens s c b d)
+unfolding openingOf programOf
+opened s Call.New b d = constructed s Call.New b d singleConfig refl (λ before. refl) (beginnings s .construction singleConfig)
+opened s (Call.WithConfig config) b d = constructed s (Call.WithConfig config) b d config refl (λ before. refl) (beginnings s .construction config)
+opened s Call.Config b d = record { sorted = refl; follows = refl }
+opened s Call.Device b d = record { sorted = refl; follows = refl }
+opened s Call.Id b d = record { sorted = refl; follows = refl }
+opened s Call.Free b d = record { sorted = refl; follows = refl }
+opened s Call.ReadStatus1 b d = transfers s Call.ReadStatus1 b d _ _ refl (beginnings s .status1) tt (λ select. refl)
+opened s Call.ReadStatus2 b d = transfers s Call.ReadStatus2 b d _ _ refl (beginnings s .status2) tt (λ select. refl)
+opened s Call.IsBusy b d = transfers s Call.IsBusy b d _ _ refl (beginnings s .busy) tt (λ select. refl)
+opened s Call.JedecId b d = transfers s Call.JedecId b d _ _ refl (beginnings s .id) tt (λ select. refl)
+opened s Call.UniqueId b d = transfers s Call.UniqueId b d _ _ refl (beginnings s .uniqueId) tt (λ select. refl)
+opened s Call.QuadEnabled b d = transfers s Call.QuadEnabled b d _ _ refl (beginnings s .quadEnabled) tt (λ select. refl)
+opened s Call.EnableQuad b d = transfers s Call.EnableQuad b d _ _ refl (beginnings s .enableQuad) tt (λ select. refl)
+opened s Call.DisableQuad b d = transfers s Call.DisableQuad b d _ _ refl (beginnings s .disableQuad) tt (λ select. refl)
+opened s (Call.Read offset) b d = used s (Call.Read offset) b d (Takes.Buffer b) (readThen s offset b) refl (λ h. reads s offset b) (keeps-read-call s offset b) (selects-read s offset b)
+opened s (Call.Write offset) b d = used s (Call.Write offset) b d (Takes.Data d) (writeThen s offset d) refl (λ h. writes s h offset d) (keeps-write-call s offset d) (selects-write s offset d)
+opened s Call.Unprotect b d = transfers s Call.Unprotect b d _ _ refl (beginnings s .unprotected) tt (λ select. refl)
+opened s (Call.Erase from to) b d = used s (Call.Erase from to) b d Takes.Nothing (eraseThen s from to) refl (λ h. erases s h from to) (keeps-erase-call s from to) (selects-erase s from to)
+opened s (Call.EraseSector offset) b d = unit-used s (Call.EraseSector offset) b d EraseKind.Sector offset refl (λ h. erases-one s h EraseKind.Sector offset)
+opened s (Call.EraseBlock offset) b d = unit-used s (Call.EraseBlock offset) b d EraseKind.Block offset refl (λ h. erases-one s h EraseKind.Block offset)

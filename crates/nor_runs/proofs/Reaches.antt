@@ -17,6 +17,7 @@ use Rattle.qspi.specs.Bytes.{AllBytes}
 use Rattle.spi_flash.specs.Path.{Answers, delays, Reaches, Ends}
 use Rattle.qspi.proofs.Cases.{by-cases}
 use Rattle.spi_flash.proofs.Laws.{ends-ret, ends-bind, ends-then, ends-eq, ends-transfer, ends-refuse, ends-reaches}
+use Rattle.flash_runs.proofs.Supplies.{Asks, Bounds}
 use Rattle.spi_nor.specs.Opcode.{MAX-BULK-LEN}
 use Rattle.spi_nor.specs.Status.{busyOf, writeEnabledOf, quadEnabled1Of, quadEnabled2Of, unprotected1Of, unprotected2Of}
 use Rattle.spi_nor.specs.Config.{fromJedec, singleConfig, inBoundsOf}
@@ -27,7 +28,7 @@ use Rattle.nor_driver.specs.Call.{freshSetup}
 use Rattle.nor_runs.specs.Rust.{read-status1, read-status2, is-busy, write-enable, write-status1, write-status2, jedec-id, unique-id, quad-enabled, enable-quad, disable-quad, reading, read, read-back, page-program, writing, write, erase-unit, erase-loop, erasing, erase, unprotect, quad-if, with-config}
 use Rattle.nor_runs.specs.Program.{Left, programOf}
 use Rattle.nor_runs.specs.Bound.{pageTaken, quadBound, constructionBound, unitBound, eraseSum, delayBound}
-use Rattle.nor_runs.specs.ProgramBounds.{Begins, CanEnd}
+use Rattle.nor_runs.specs.Run.{sortOf, canEnd, norDriver}
 use Rattle.spi_nor.specs.declared.config.DeviceSetting.{DeviceSetting}
 use Rattle.spi_nor.specs.declared.config.QuadSetting.{QuadSetting}
 use Rattle.spi_nor.specs.declared.config.SpiNorConfig.{SpiNorConfig}
@@ -40,6 +41,7 @@ use Rattle.nor_phases.proofs.Pieces.{chunk-left, page-whole}
 use Rattle.nor_runs.proofs.Loops.{reading-loop, writing-loop, in-range, after-unit}
 use Rattle.nor_runs.proofs.Waits.{wait-ends}
 use Rattle.nor_runs.proofs.Replies.{byte, three-zeros, eight-zeros, delivery, same-bytes}
+use Rattle.nor_runs.proofs.Passed.{read-passed, write-passed, erase-passed, unit-passed}
 use Rattle.nor_runs.proofs.EraseSteps.{range-in, step-fits}
 
 -- a test that lets the call through adds nothing
@@ -251,55 +253,62 @@ module _ (given : List ℕ) where
   refused-with-config config h f =
       rw h (record { reach = (0, refl, (0, three-zeros given, rw (page-refused (config .device) h) refl)) })
 
-module _ (flash : Setup) (bounds : inBoundsOf (flash .device) ≡ true) where
-  -- every call that begins comes to its bill at a good end, but for a construction with too large a page
-  pub ends : (call : Call) (b : ℕ) (given : List ℕ) → AllBytes given → Begins flash call b (length given) → CanEnd call →
-      (left : Left) × Ends given delays (delayBound flash call (length given)) left (programOf flash call b (length given))
-  unfolding programOf delayBound
-  ends Call.New b given s h c = (_, ends-bind _ (ends-with-config given singleConfig refl) ends-ret)
-  ends (Call.WithConfig config) b given s h c = (_, ends-eq (omega arith) (ends-bind _ (ends-with-config given config c) ends-ret))
-  ends Call.Config b given s h c = (_, ends-ret)
-  ends Call.Device b given s h c = (_, ends-ret)
-  ends Call.Id b given s h c = (_, ends-ret)
-  ends Call.Free b given s h c = (_, ends-ret)
-  ends Call.ReadStatus1 b given s h c = (_, ends-bind _ (ends-status1 given 0 (lit< tt)) ends-ret)
-  ends Call.ReadStatus2 b given s h c = (_, ends-bind _ (ends-status2 given 0 (lit< tt)) ends-ret)
-  ends Call.IsBusy b given s h c = (_, ends-bind _ (ends-is-busy given) ends-ret)
-  ends Call.JedecId b given s h c = (_, ends-bind _ (ends-jedec-id given) ends-ret)
-  ends Call.UniqueId b given s h c = (_, ends-bind _ (ends-unique-id given) ends-ret)
-  ends Call.QuadEnabled b given s h c = (_, ends-bind _ (ends-quad-enabled given) ends-ret)
-  ends Call.EnableQuad b given s h c = (_, ends-then (ends-enable-quad given) ends-ret)
-  ends Call.DisableQuad b given s h c = (_, ends-then (ends-disable-quad given) ends-ret)
-  ends (Call.Read offset) b given s h c = (_, ends-then (ends-read given flash bounds offset b h) ends-ret)
-  ends (Call.Write offset) b given s h c =
-      let some = deviceBounds .accepted (flash .device) bounds .leastPage in
-      let r = in-range (flash .device .capacity) offset (length given) (h .0) in
-      (_, ends-eq (omega arith) (ends-then (ends-write given flash bounds some s offset (length given) refl r (h .1) (h .2)) ends-ret))
-  ends Call.Unprotect b given s h c = (_, ends-bind _ (ends-unprotect given) ends-ret)
-  ends (Call.Erase from to) b given s h c = (_, ends-eq (omega arith) (ends-then (ends-erase given flash bounds from to (h .0) (h .1) (h .2) (h .3)) ends-ret))
-  ends (Call.EraseSector offset) b given s h c = (_, ends-then (ends-unit given flash bounds EraseKind.Sector offset (h .0) (h .1)) ends-ret)
-  ends (Call.EraseBlock offset) b given s h c = (_, ends-then (ends-unit given flash bounds EraseKind.Block offset (h .0) (h .1)) ends-ret)
+-- every call that begins comes to its bill at a good end, but for a construction with too large a page
+pub ends : (flash : Setup) (call : Call) (b : ℕ) (given : List ℕ) → Bounds norDriver flash call b (length given) → AllBytes given → Asks (programOf flash call b (length given)) →
+    canEnd (sortOf call b (length given)) ≡ true → (left : Left) × Ends given delays (delayBound flash call (length given)) left (programOf flash call b (length given))
+unfolding programOf delayBound
+ends flash Call.New b given bounds s h c = (_, ends-bind _ (ends-with-config given singleConfig refl) ends-ret)
+ends flash (Call.WithConfig config) b given bounds s h c = (_, ends-eq (omega arith) (ends-bind _ (ends-with-config given config c) ends-ret))
+ends flash Call.Config b given bounds s h c = (_, ends-ret)
+ends flash Call.Device b given bounds s h c = (_, ends-ret)
+ends flash Call.Id b given bounds s h c = (_, ends-ret)
+ends flash Call.Free b given bounds s h c = (_, ends-ret)
+ends flash Call.ReadStatus1 b given bounds s h c = (_, ends-bind _ (ends-status1 given 0 (lit< tt)) ends-ret)
+ends flash Call.ReadStatus2 b given bounds s h c = (_, ends-bind _ (ends-status2 given 0 (lit< tt)) ends-ret)
+ends flash Call.IsBusy b given bounds s h c = (_, ends-bind _ (ends-is-busy given) ends-ret)
+ends flash Call.JedecId b given bounds s h c = (_, ends-bind _ (ends-jedec-id given) ends-ret)
+ends flash Call.UniqueId b given bounds s h c = (_, ends-bind _ (ends-unique-id given) ends-ret)
+ends flash Call.QuadEnabled b given bounds s h c = (_, ends-bind _ (ends-quad-enabled given) ends-ret)
+ends flash Call.EnableQuad b given bounds s h c = (_, ends-then (ends-enable-quad given) ends-ret)
+ends flash Call.DisableQuad b given bounds s h c = (_, ends-then (ends-disable-quad given) ends-ret)
+ends flash (Call.Read offset) b given bounds s h c = (_, ends-then (ends-read given flash bounds offset b (read-passed flash offset b _ h)) ends-ret)
+ends flash (Call.Write offset) b given bounds s h c =
+    let some = deviceBounds .accepted (flash .device) bounds .leastPage in
+    let p = write-passed flash offset (length given) _ h in
+    let r = in-range (flash .device .capacity) offset (length given) (p .0) in
+    (_, ends-eq (omega arith) (ends-then (ends-write given flash bounds some s offset (length given) refl r (p .1) (p .2)) ends-ret))
+ends flash Call.Unprotect b given bounds s h c = (_, ends-bind _ (ends-unprotect given) ends-ret)
+ends flash (Call.Erase from to) b given bounds s h c =
+    let p = erase-passed flash from to _ h in
+    (_, ends-eq (omega arith) (ends-then (ends-erase given flash bounds from to (p .0) (p .1) (p .2) (p .3)) ends-ret))
+ends flash (Call.EraseSector offset) b given bounds s h c =
+    let p = unit-passed flash EraseKind.Sector offset _ h in
+    (_, ends-then (ends-unit given flash bounds EraseKind.Sector offset (p .0) (p .1)) ends-ret)
+ends flash (Call.EraseBlock offset) b given bounds s h c =
+    let p = unit-passed flash EraseKind.Block offset _ h in
+    (_, ends-then (ends-unit given flash bounds EraseKind.Block offset (p .0) (p .1)) ends-ret)
 
-  pub reached : (call : Call) (b : ℕ) (given : List ℕ) → AllBytes given → Begins flash call b (length given) → Reaches given delays (delayBound flash call (length given)) (programOf flash call b (length given))
-  unfolding programOf delayBound
-  reached Call.New b given s h = ends-reaches (ends Call.New b given s h tt .1)
-  reached (Call.WithConfig config) b given s h =
-      by-cases (pageTaken (config .device)) (λ c. ends-reaches (ends (Call.WithConfig config) b given s h c .1)) (λ c. refused-with-config given config c _)
-  reached Call.Config b given s h = ends-reaches (ends Call.Config b given s h tt .1)
-  reached Call.Device b given s h = ends-reaches (ends Call.Device b given s h tt .1)
-  reached Call.Id b given s h = ends-reaches (ends Call.Id b given s h tt .1)
-  reached Call.Free b given s h = ends-reaches (ends Call.Free b given s h tt .1)
-  reached Call.ReadStatus1 b given s h = ends-reaches (ends Call.ReadStatus1 b given s h tt .1)
-  reached Call.ReadStatus2 b given s h = ends-reaches (ends Call.ReadStatus2 b given s h tt .1)
-  reached Call.IsBusy b given s h = ends-reaches (ends Call.IsBusy b given s h tt .1)
-  reached Call.JedecId b given s h = ends-reaches (ends Call.JedecId b given s h tt .1)
-  reached Call.UniqueId b given s h = ends-reaches (ends Call.UniqueId b given s h tt .1)
-  reached Call.QuadEnabled b given s h = ends-reaches (ends Call.QuadEnabled b given s h tt .1)
-  reached Call.EnableQuad b given s h = ends-reaches (ends Call.EnableQuad b given s h tt .1)
-  reached Call.DisableQuad b given s h = ends-reaches (ends Call.DisableQuad b given s h tt .1)
-  reached (Call.Read offset) b given s h = ends-reaches (ends (Call.Read offset) b given s h tt .1)
-  reached (Call.Write offset) b given s h = ends-reaches (ends (Call.Write offset) b given s h tt .1)
-  reached Call.Unprotect b given s h = ends-reaches (ends Call.Unprotect b given s h tt .1)
-  reached (Call.Erase from to) b given s h = ends-reaches (ends (Call.Erase from to) b given s h tt .1)
-  reached (Call.EraseSector offset) b given s h = ends-reaches (ends (Call.EraseSector offset) b given s h tt .1)
-  reached (Call.EraseBlock offset) b given s h = ends-reaches (ends (Call.EraseBlock offset) b given s h tt .1)
+pub reached : (flash : Setup) (call : Call) (b : ℕ) (given : List ℕ) → Bounds norDriver flash call b (length given) → AllBytes given → Asks (programOf flash call b (length given)) →
+    Reaches given delays (delayBound flash call (length given)) (programOf flash call b (length given))
+unfolding programOf delayBound
+reached flash Call.New b given bounds s h = ends-reaches (ends flash Call.New b given bounds s h refl .1)
+reached flash (Call.WithConfig config) b given bounds s h =
+    by-cases (pageTaken (config .device)) (λ c. ends-reaches (ends flash (Call.WithConfig config) b given bounds s h c .1)) (λ c. refused-with-config given config c _)
+reached flash Call.Config b given bounds s h = ends-reaches (ends flash Call.Config b given bounds s h refl .1)
+reached flash Call.Device b given bounds s h = ends-reaches (ends flash Call.Device b given bounds s h refl .1)
+reached flash Call.Id b given bounds s h = ends-reaches (ends flash Call.Id b given bounds s h refl .1)
+reached flash Call.Free b given bounds s h = ends-reaches (ends flash Call.Free b given bounds s h refl .1)
+reached flash Call.ReadStatus1 b given bounds s h = ends-reaches (ends flash Call.ReadStatus1 b given bounds s h refl .1)
+reached flash Call.ReadStatus2 b given bounds s h = ends-reaches (ends flash Call.ReadStatus2 b given bounds s h refl .1)
+reached flash Call.IsBusy b given bounds s h = ends-reaches (ends flash Call.IsBusy b given bounds s h refl .1)
+reached flash Call.JedecId b given bounds s h = ends-reaches (ends flash Call.JedecId b given bounds s h refl .1)
+reached flash Call.UniqueId b given bounds s h = ends-reaches (ends flash Call.UniqueId b given bounds s h refl .1)
+reached flash Call.QuadEnabled b given bounds s h = ends-reaches (ends flash Call.QuadEnabled b given bounds s h refl .1)
+reached flash Call.EnableQuad b given bounds s h = ends-reaches (ends flash Call.EnableQuad b given bounds s h refl .1)
+reached flash Call.DisableQuad b given bounds s h = ends-reaches (ends flash Call.DisableQuad b given bounds s h refl .1)
+reached flash (Call.Read offset) b given bounds s h = ends-reaches (ends flash (Call.Read offset) b given bounds s h refl .1)
+reached flash (Call.Write offset) b given bounds s h = ends-reaches (ends flash (Call.Write offset) b given bounds s h refl .1)
+reached flash Call.Unprotect b given bounds s h = ends-reaches (ends flash Call.Unprotect b given bounds s h refl .1)
+reached flash (Call.Erase from to) b given bounds s h = ends-reaches (ends flash (Call.Erase from to) b given bounds s h refl .1)
+reached flash (Call.EraseSector offset) b given bounds s h = ends-reaches (ends flash (Call.EraseSector offset) b given bounds s h refl .1)
+reached flash (Call.EraseBlock offset) b given bounds s h = ends-reaches (ends flash (Call.EraseBlock offset) b given bounds s h refl .1)

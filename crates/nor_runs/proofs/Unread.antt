@@ -7,16 +7,17 @@ use lib.Dec.{ltb}
 use borrow.Author.Tests.{ltb-true, le-ltb}
 use Rattle.qspi.specs.Choice.{pick}
 use Rattle.qspi.specs.declared.transfer.Sink.{Sink}
-use Rattle.spi_flash.specs.Loan.{Lent}
 use Rattle.spi_flash.specs.Prog.{ret, _>>=_, _>>_, refuse, transfer}
 use Rattle.spi_flash.specs.Path.{Bounded}
 use Rattle.qspi.proofs.Cases.{by-cases}
-use Rattle.spi_flash.proofs.Filling.{Fills}
+use Rattle.flash_runs.specs.Driver.{takesOf}
+use Rattle.flash_runs.proofs.Filling.{Fills}
+use Rattle.flash_runs.proofs.Supplies.{Bounds, LendsAs}
 use Rattle.spi_flash.proofs.Laws.{bounded-more, bounded-ret}
 use Rattle.spi_flash.proofs.Unread.{bufferReads, unread-wait}
 use Rattle.spi_nor.specs.Opcode.{timingsOf}
 use Rattle.spi_nor.specs.Command.{readStatus1Command}
-use Rattle.spi_nor.specs.Config.{singleConfig, inBoundsOf}
+use Rattle.spi_nor.specs.Config.{singleConfig}
 use Rattle.spi_nor.specs.declared.config.NorDeviceInfo.{NorDeviceInfo}
 use Rattle.spi_nor.specs.declared.config.QuadSetting.{QuadSetting}
 use Rattle.spi_nor.specs.declared.config.SpiNorConfig.{SpiNorConfig}
@@ -31,12 +32,9 @@ use Rattle.nor_driver.specs.declared.state.Call.{Call}
 use Rattle.nor_runs.specs.Rust.{busyValue, wait-ready, reading, read, with-config}
 use Rattle.nor_runs.specs.Program.{Left, leaving, programOf}
 use Rattle.nor_runs.specs.Bound.{pageTaken, eraseSum}
-use Rattle.nor_runs.specs.Run.{takesOf, takesBuffer}
+use Rattle.nor_runs.specs.Run.{sortOf, norDriver}
 use Rattle.nor_runs.proofs.Loops.{chunk-some, reading-loop}
 use Rattle.nor_runs.proofs.Weights.{answered, ended, Weighs, bounded-status1, bounded-status2, bounded-is-busy, bounded-jedec-id, bounded-unique-id, bounded-quad-enabled, bounded-enable-quad, bounded-disable-quad, bounded-unprotect, bounded-write, bounded-unit, bounded-erase, bounded-with-config}
-
-true≢false : true ≡ false → ⊥
-true≢false h = let z : _≡_ {A = ℕ} 0 1 = cc in omega arith
 
 -- ---- no call but read puts anything into the caller's buffer
 
@@ -83,45 +81,19 @@ constructed config = bounded-more (none (pageTaken (config .device))) (bounded-w
     none true = omega arith
     none false = omega arith
 
--- a call that takes no buffer
-pub unread : (flash : Setup) → inBoundsOf (flash .device) ≡ true → (call : Call) (l : Lent) (b d : ℕ) → takesBuffer (takesOf call l) ≡ false → Bounded bufferReads 0 (programOf flash call b d)
-unfolding programOf
-unread flash h Call.New l b d k = answered _ (omega arith) (constructed singleConfig)
-unread flash h (Call.WithConfig config) l b d k = answered _ (omega arith) (constructed config)
-unread flash h Call.Config l b d k = bounded-ret
-unread flash h Call.Device l b d k = bounded-ret
-unread flash h Call.Id l b d k = bounded-ret
-unread flash h Call.Free l b d k = bounded-ret
-unread flash h Call.ReadStatus1 l b d k = answered _ (omega arith) (bounded-status1 unread-figures)
-unread flash h Call.ReadStatus2 l b d k = answered _ (omega arith) (bounded-status2 unread-figures)
-unread flash h Call.IsBusy l b d k = answered _ (omega arith) (bounded-is-busy unread-figures)
-unread flash h Call.JedecId l b d k = answered _ (omega arith) (bounded-jedec-id unread-figures)
-unread flash h Call.UniqueId l b d k = answered _ (omega arith) (bounded-unique-id unread-figures)
-unread flash h Call.QuadEnabled l b d k = answered _ (omega arith) (bounded-quad-enabled unread-figures)
-unread flash h Call.EnableQuad l b d k = ended _ (omega arith) (bounded-enable-quad unread-figures)
-unread flash h Call.DisableQuad l b d k = ended _ (omega arith) (bounded-disable-quad unread-figures)
-unread flash h (Call.Read offset) l b d k = absurd (true≢false k)
-unread flash h (Call.Write offset) l b d k =
-    ended _ (omega arith) (bounded-write unread-figures flash (deviceBounds .accepted (flash .device) h .leastPage) offset d)
-unread flash h Call.Unprotect l b d k = answered _ (omega arith) (bounded-unprotect unread-figures)
-unread flash h (Call.Erase from to) l b d k =
-    ended _ (no-sum (flash .device) (to - from) from to) (bounded-erase unread-figures flash (λ kind. 0) (λ kind. omega arith) from to)
-unread flash h (Call.EraseSector offset) l b d k = ended _ (omega arith) (bounded-unit unread-figures flash EraseKind.Sector offset)
-unread flash h (Call.EraseBlock offset) l b d k = ended _ (omega arith) (bounded-unit unread-figures flash EraseKind.Block offset)
-
 -- ---- read fills the buffer, place after place
 
 module _ (flash : Setup) (offset len : ℕ) (left : Left) where
   abbrev Reads : ℕ → Type 0
-  Reads done = Fills len done (reading flash offset len done >> ret left)
+  Reads done = Fills (λ command. true) len done (reading flash offset len done >> ret left)
 
   fills-piece : (q : QuadSetting) (done : ℕ) → done + chunkOf len done ≤ len → Reads (done + chunkOf len done) →
-      Fills len done ((transfer (readAt q (placeOf offset done) (chunkOf len done) (Sink.Buffer done)) >> reading flash offset len (done + chunkOf len done)) >> ret left)
+      Fills (λ command. true) len done ((transfer (readAt q (placeOf offset done) (chunkOf len done) (Sink.Buffer done)) >> reading flash offset len (done + chunkOf len done)) >> ret left)
   unfolding _>>=_ _>>_
-  fills-piece QuadSetting.Single done room later = (refl, room, λ v. later)
-  fills-piece (QuadSetting.Quad q) done room later = (refl, room, λ v. later)
+  fills-piece QuadSetting.Single done room later = (refl, refl, room, λ v. later)
+  fills-piece (QuadSetting.Quad q) done room later = (refl, refl, room, λ v. later)
 
-  finished : (done : ℕ) → Fills len done (ret (tt {0}) >> ret left)
+  finished : (done : ℕ) → Fills (λ command. true) len done (ret (tt {0}) >> ret left)
   unfolding _>>=_ _>>_
   finished done = tt
 
@@ -137,10 +109,33 @@ module _ (flash : Setup) (offset len : ℕ) (left : Left) where
       rw e (fills-piece (flash .config .quad) done (omega arith) (fills-reading k (done + chunkOf len done) (omega arith))))
       (λ e. rw e (finished done)))
 
-  fills-read : Fills len 0 (read flash offset len >> ret left)
+  fills-read : Fills (λ command. true) len 0 (read flash offset len >> ret left)
   unfolding read refuse _>>=_ _>>_
   fills-read = by-cases (inRange (flash .device .capacity) offset len) (λ e. rw e (fills-reading len 0 (omega arith))) (λ e. rw e tt)
 
-pub fills : (flash : Setup) (offset len d : ℕ) → Fills len 0 (programOf flash (Call.Read offset) len d)
+-- ---- every call
+
+pub lent : (flash : Setup) (call : Call) (b d : ℕ) → Bounds norDriver flash call b d → LendsAs norDriver flash call b d (takesOf (sortOf call b d))
 unfolding programOf
-fills flash offset len d = fills-read flash offset len (leaving flash Answer.Done)
+lent flash Call.New b d h = answered _ (omega arith) (constructed singleConfig)
+lent flash (Call.WithConfig config) b d h = answered _ (omega arith) (constructed config)
+lent flash Call.Config b d h = bounded-ret
+lent flash Call.Device b d h = bounded-ret
+lent flash Call.Id b d h = bounded-ret
+lent flash Call.Free b d h = bounded-ret
+lent flash Call.ReadStatus1 b d h = answered _ (omega arith) (bounded-status1 unread-figures)
+lent flash Call.ReadStatus2 b d h = answered _ (omega arith) (bounded-status2 unread-figures)
+lent flash Call.IsBusy b d h = answered _ (omega arith) (bounded-is-busy unread-figures)
+lent flash Call.JedecId b d h = answered _ (omega arith) (bounded-jedec-id unread-figures)
+lent flash Call.UniqueId b d h = answered _ (omega arith) (bounded-unique-id unread-figures)
+lent flash Call.QuadEnabled b d h = answered _ (omega arith) (bounded-quad-enabled unread-figures)
+lent flash Call.EnableQuad b d h = ended _ (omega arith) (bounded-enable-quad unread-figures)
+lent flash Call.DisableQuad b d h = ended _ (omega arith) (bounded-disable-quad unread-figures)
+lent flash (Call.Read offset) b d h = (refl, fills-read flash offset b (leaving flash Answer.Done))
+lent flash (Call.Write offset) b d h =
+    ended _ (omega arith) (bounded-write unread-figures flash (deviceBounds .accepted (flash .device) h .leastPage) offset d)
+lent flash Call.Unprotect b d h = answered _ (omega arith) (bounded-unprotect unread-figures)
+lent flash (Call.Erase from to) b d h =
+    ended _ (no-sum (flash .device) (to - from) from to) (bounded-erase unread-figures flash (λ kind. 0) (λ kind. omega arith) from to)
+lent flash (Call.EraseSector offset) b d h = ended _ (omega arith) (bounded-unit unread-figures flash EraseKind.Sector offset)
+lent flash (Call.EraseBlock offset) b d h = ended _ (omega arith) (bounded-unit unread-figures flash EraseKind.Block offset)

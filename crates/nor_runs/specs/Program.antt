@@ -1,18 +1,18 @@
 -- The Rust's program of each call, with the answer and the driver that it leaves behind.
 use Prim.Native.Nat.{ℕ}
 use Rattle.spi_flash.specs.Prog.{Prog, ret, _>>=_, _>>_}
+use Rattle.flash_runs.specs.Driver as Driver
 use Rattle.nor_runs.specs.Rust.{read-status1, read-status2, is-busy, jedec-id, unique-id, quad-enabled, enable-quad, disable-quad, read, write, erase-sector, erase-block, erase, Unprotected, unprotect, with-config, new}
 use Rattle.nor_answers.specs.declared.answer.Answer.{Answer}
 use Rattle.nor_driver.specs.declared.state.Call.{Call}
 use Rattle.nor_phases.specs.declared.setup.Setup.{Setup}
 
 -- the answer, and what the Rust's struct holds afterwards
-pub record Left : Type 0 where
-  pub answer : Answer
-  pub setup : Setup
+abbrev pub Left : Type 0
+Left = Driver.Left Setup Answer
 
 abbrev pub leaving : Setup → Answer → Left
-leaving setup answer = record { answer = answer; setup = setup }
+leaving setup answer = Driver.leaving setup answer
 
 -- with a buffer of b bytes and data of d bytes
 unfoldable pub programOf : Setup → Call → ℕ → ℕ → Prog Left

@@ -1,4 +1,5 @@
--- Runs of the NOR driver: the code's own steps, as a system that is driven event by event.
+-- The NOR driver as the promises speak of it: the code's own steps, as a system that is driven event by event, what each call is, and
+-- the figures.
 use Prim.Native.Nat.{ℕ}
 use mathlib.Core.Bool.{Bool, true, false}
 use mathlib.Core.List.{List}
@@ -8,13 +9,17 @@ use Rattle.spi_flash.specs.Loan.{Lent}
 use Rattle.spi_flash.specs.Machine.{lentAs}
 use Rattle.spi_flash.specs.Run as Run
 use Rattle.spi_flash.specs.Run.{System}
-use Rattle.spi_flash.specs.Error.{errorNumber, errorValues}
 use Rattle.spi_flash.specs.declared.loan.Takes.{Takes}
+use Rattle.flash_runs.specs.Driver.{Sort, constructs, tells, releases, uses, Driver}
+use Rattle.flash_runs.specs.Promises.{Promises}
+use Rattle.spi_nor.specs.Config.{inBoundsOf, singleConfig}
 use Rattle.nor_answers.specs.Answer.{answerValues}
-use Rattle.nor_driver.specs.Answer.{Ending, goes, endsWith}
-use Rattle.nor_driver.specs.Step.{Moved, stepOf}
-use Rattle.nor_driver.specs.Call.{beginOf}
-use Rattle.nor_runs.specs.Program.{Left, leaving}
+use Rattle.nor_answers.specs.declared.answer.Answer.{Answer}
+use Rattle.nor_phases.specs.declared.setup.Setup.{Setup}
+use Rattle.nor_driver.specs.Step.{Moved, stepOf, deliveredPart}
+use Rattle.nor_driver.specs.Call.{freshSetup, notBuilt, beginOf}
+use Rattle.nor_runs.specs.Program.{Left, leaving, programOf}
+use Rattle.nor_runs.specs.Bound.{pageTaken, delayBound, actionBound}
 use Rattle.nor_driver.specs.declared.state.Call.{Call}
 use Rattle.nor_driver.specs.declared.state.Given.{Given}
 use Rattle.nor_driver.specs.declared.state.Running.{Running}
@@ -27,13 +32,6 @@ givenAs (Given.Act action) flash scratch lent = Run.act (shownOf action scratch 
 givenAs (Given.Ended answer) flash scratch lent = Run.ended (leaving (flash .setup) answer)
 givenAs (Given.Failed error) flash scratch lent = Run.failed error
 givenAs (Given.Refused error) flash scratch lent = Run.refused error
-
--- document 01's number and values of what a step gives
-abbrev pub endingAs : Run.Given Left → Ending
-endingAs (Run.act shown) = goes
-endingAs (Run.ended left) = endsWith 0 (answerValues (left .answer))
-endingAs (Run.failed error) = endsWith (errorNumber error) (errorValues error)
-endingAs (Run.refused error) = endsWith (errorNumber error) (errorValues error)
 
 -- a beginning changes nothing that is lent
 abbrev pub begunAs : Stepped → Lent → Run.Moved SpiNorFlash Left
@@ -60,57 +58,54 @@ nor =
       running = λ flash. isRunning (flash .running);
     }
 
--- what a call takes beside the scratch
-abbrev pub takesOf : Call → Lent → Takes
-takesOf Call.New l = Takes.Nothing
-takesOf (Call.WithConfig config) l = Takes.Nothing
-takesOf Call.Config l = Takes.Nothing
-takesOf Call.Device l = Takes.Nothing
-takesOf Call.Id l = Takes.Nothing
-takesOf Call.Free l = Takes.Nothing
-takesOf Call.ReadStatus1 l = Takes.Nothing
-takesOf Call.ReadStatus2 l = Takes.Nothing
-takesOf Call.IsBusy l = Takes.Nothing
-takesOf Call.JedecId l = Takes.Nothing
-takesOf Call.UniqueId l = Takes.Nothing
-takesOf Call.QuadEnabled l = Takes.Nothing
-takesOf Call.EnableQuad l = Takes.Nothing
-takesOf Call.DisableQuad l = Takes.Nothing
-takesOf (Call.Read offset) l = Takes.Buffer (length (l .buffer))
-takesOf (Call.Write offset) l = Takes.Data (length (l .given))
-takesOf Call.Unprotect l = Takes.Nothing
-takesOf (Call.Erase from to) l = Takes.Nothing
-takesOf (Call.EraseSector offset) l = Takes.Nothing
-takesOf (Call.EraseBlock offset) l = Takes.Nothing
+-- what each call is, with a buffer of b bytes and data of d
+abbrev pub sortOf : Call → ℕ → ℕ → Sort Setup
+sortOf Call.New b d = constructs (freshSetup singleConfig)
+sortOf (Call.WithConfig config) b d = constructs (freshSetup config)
+sortOf Call.Config b d = tells
+sortOf Call.Device b d = tells
+sortOf Call.Id b d = tells
+sortOf Call.Free b d = releases
+sortOf Call.ReadStatus1 b d = uses Takes.Nothing
+sortOf Call.ReadStatus2 b d = uses Takes.Nothing
+sortOf Call.IsBusy b d = uses Takes.Nothing
+sortOf Call.JedecId b d = uses Takes.Nothing
+sortOf Call.UniqueId b d = uses Takes.Nothing
+sortOf Call.QuadEnabled b d = uses Takes.Nothing
+sortOf Call.EnableQuad b d = uses Takes.Nothing
+sortOf Call.DisableQuad b d = uses Takes.Nothing
+sortOf (Call.Read offset) b d = uses (Takes.Buffer b)
+sortOf (Call.Write offset) b d = uses (Takes.Data d)
+sortOf Call.Unprotect b d = uses Takes.Nothing
+sortOf (Call.Erase from to) b d = uses Takes.Nothing
+sortOf (Call.EraseSector offset) b d = uses Takes.Nothing
+sortOf (Call.EraseBlock offset) b d = uses Takes.Nothing
 
--- whether it is the caller's buffer
-abbrev pub takesBuffer : Takes → Bool
-takesBuffer Takes.Nothing = false
-takesBuffer (Takes.Buffer n) = true
-takesBuffer (Takes.Data n) = false
+-- a construction whose page is above 512 is refused once the id is read; every other call that begins can end well
+abbrev pub canEnd : Sort Setup → Bool
+canEnd (constructs fresh) = pageTaken (fresh .config .device)
+canEnd tells = true
+canEnd releases = true
+canEnd (uses takes) = true
 
--- what a call is to the driver: its construction, a look at what it holds, its release, or a use of the bus
-pub data Sort : Type 0 where
-  constructs tells releases uses : Sort
+-- the NOR driver, of which specs/Promises.antt of flash_runs speaks; all that its read call reads is the caller's
+abbrev pub norDriver : Driver SpiNorFlash Call Setup Answer
+norDriver = record {
+  system = nor;
+  setup = λ flash. flash .setup;
+  built = λ flash. flash .built;
+  blank = notBuilt .setup;
+  delivered = deliveredPart;
+  sort = sortOf;
+  inBounds = λ flash. inBoundsOf (flash .device);
+  program = programOf;
+  delayBound = λ flash call b d. delayBound flash call d;
+  actionBound = actionBound;
+  canEnd = λ flash call b d. canEnd (sortOf call b d);
+  values = answerValues;
+  reads = λ command. true;
+}
 
-abbrev pub sortOf : Call → Sort
-sortOf Call.New = constructs
-sortOf (Call.WithConfig config) = constructs
-sortOf Call.Config = tells
-sortOf Call.Device = tells
-sortOf Call.Id = tells
-sortOf Call.Free = releases
-sortOf Call.ReadStatus1 = uses
-sortOf Call.ReadStatus2 = uses
-sortOf Call.IsBusy = uses
-sortOf Call.JedecId = uses
-sortOf Call.UniqueId = uses
-sortOf Call.QuadEnabled = uses
-sortOf Call.EnableQuad = uses
-sortOf Call.DisableQuad = uses
-sortOf (Call.Read offset) = uses
-sortOf (Call.Write offset) = uses
-sortOf Call.Unprotect = uses
-sortOf (Call.Erase from to) = uses
-sortOf (Call.EraseSector offset) = uses
-sortOf (Call.EraseBlock offset) = uses
+-- demands 1, 2 and 3
+abbrev pub NorPromises : Type 0
+NorPromises = Promises norDriver

@@ -1,0 +1,14 @@
+pub mod General
+pub mod Filling
+pub mod Buffer
+pub mod Supplies
+pub mod Steps
+pub mod Runs
+pub mod Views
+pub mod Refusals
+pub mod LeftBehind
+pub mod SameAsRust
+pub mod Delivered
+pub mod Bills
+pub mod Lent
+pub mod Promises

@@ -1,0 +1,4 @@
+pub mod Driver
+pub mod Reading
+pub mod SameAsRust
+pub mod Promises
