@@ -1,6 +1,5 @@
 -- A call of the NAND driver over a tape, step by step.
 use Prim.Native.Nat.{ℕ}
-use mathlib.Core.Bool.{Bool, true, false}
 use mathlib.Core.List.{List, []}
 use Rattle.qspi.specs.Bus.{onBus}
 use Rattle.qspi.specs.Choice.{pick}

@@ -10,7 +10,7 @@ use Rattle.frames.specs.declared.frame.Exchanged.{Exchanged}
 use Rattle.spi_flash.specs.Loan.{Lent, readyFor}
 use Rattle.spi_flash.specs.declared.loan.Takes.{Takes}
 use Rattle.tape.specs.Judge.{firstOf}
-use Rattle.tape.specs.Record.{takenAt, dataOf, spentOf, replyOf}
+use Rattle.tape.specs.Record.{takenAt, spentOf}
 use Rattle.tape_runs.specs.Player.{shownAs}
 use Rattle.tape_runs.proofs.Laws.{Unrefused, Heard, Hears, Stands, Steps, Moves, Follows}
 use Rattle.nand_driver.specs.Step.{settledOf, exchangedThen, proceedOf, stepAt, stepOf}
@@ -21,7 +21,7 @@ use Rattle.nand_driver.specs.declared.state.SpiNandFlash.{SpiNandFlash}
 use Rattle.nand_driver.specs.declared.state.Stepped.{Stepped}
 use Rattle.nand_next.specs.declared.then.Then.{Then}
 use Rattle.nand_runs.specs.Run.{givenAs, steppedAs}
-use Rattle.nand_tape.specs.Replay.{replayAt, begunOver, playedAt, plainOver, recordThen, recordOver, advancedThen, advancedOver}
+use Rattle.nand_tape.specs.Replay.{replayAt, begunOver, playedAt, plainOver, recordOver, advancedThen, advancedOver}
 use Rattle.replay_runs.specs.Nand.{lastAs, awaitedAt, playedAs, nandPlayer}
 
 -- what the replay holds shows what the run gives

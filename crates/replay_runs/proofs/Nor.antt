@@ -7,7 +7,7 @@ use Rattle.qspi.specs.declared.bus.Reply.{Reply}
 use Rattle.qspi.proofs.Cases.{by-cases}
 use Rattle.spi_flash.specs.Loan.{Lent}
 use Rattle.tape.specs.Judge.{firstOf}
-use Rattle.tape.specs.Record.{takenAt, dataOf, spentOf, replyOf}
+use Rattle.tape.specs.Record.{takenAt, spentOf}
 use Rattle.tape_runs.specs.Player.{shownAs}
 use Rattle.tape_runs.proofs.Laws.{Hears, Stands, Steps, Moves, Follows}
 use Rattle.tape_runs.proofs.Hearing.{general-hears}
@@ -19,7 +19,7 @@ use Rattle.nor_driver.specs.declared.state.Stepped.{Stepped}
 use Rattle.nor_runs.specs.Run.{givenAs, steppedAs}
 use Rattle.nor_runs.proofs.Is.{runningAs, view, answers-at}
 use Rattle.nor_runs.proofs.Places.{norParts}
-use Rattle.nor_tape.specs.Replay.{replayAt, begunOver, playedAt, plainOver, recordThen, recordOver, advancedThen, advancedOver}
+use Rattle.nor_tape.specs.Replay.{replayAt, begunOver, playedAt, plainOver, recordOver, advancedThen, advancedOver}
 use Rattle.replay_runs.specs.Nor.{lastAs, awaitedAt, playedAs, norPlayer}
 
 -- what the replay holds shows what the run gives

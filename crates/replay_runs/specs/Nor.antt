@@ -1,5 +1,4 @@
 -- The NOR driver over a tape.
-use mathlib.Core.List.{List}
 use lib.ListN.{length}
 use Rattle.spi_flash.specs.Loan.{Lent}
 use Rattle.spi_flash.specs.Machine.{lentAs}

@@ -18,10 +18,10 @@ use Rattle.spi_flash.specs.Machine.{heard}
 use Rattle.spi_flash.specs.Run as Run
 use Rattle.spi_flash.specs.declared.error.FlashError.{FlashError}
 use Rattle.spi_flash.specs.declared.loan.Takes.{Takes}
-use Rattle.tape.specs.Record.{takenAt, dataOf, spentOf, replyOf}
+use Rattle.tape.specs.Record.{dataOf, spentOf, replyOf}
 use Rattle.tape.specs.declared.record.Record.{Record}
 use Rattle.tape_runs.specs.Player.{Last, acts, ends, fails, refuses, shownAs, Played, Awaited, nothing, frame, Player}
-use Rattle.tape_runs.specs.Exactly.{Just, stepGives, nextRecord, Exactly}
+use Rattle.tape_runs.specs.Exactly.{Just, nextRecord, Exactly}
 use Rattle.tape_runs.proofs.Laws.{Unrefused, Heard, Hears, Steps, Acts, Moves, Follows}
 
 -- ---- the refusals of a driver's step are 13 and 14

@@ -1,10 +1,10 @@
 -- What the general driver of flash_runs gives to a reply goes by what the reply does to the frame.
 use Prim.Native.Nat.{ℕ}
-use mathlib.Core.Path.{_≡_, refl}
+use mathlib.Core.Path.{refl}
 use mathlib.Core.List.{List}
 use Rattle.qspi.specs.declared.bus.Reply.{Reply}
 use Rattle.qspi.proofs.Cases.{by-cases}
-use Rattle.frames.specs.Frame.{exchangeOf, deliveredBy}
+use Rattle.frames.specs.Frame.{exchangeOf}
 use Rattle.frames.specs.declared.frame.Exchanged.{Exchanged}
 use Rattle.spi_flash.specs.Loan.{Lent, readyFor}
 use Rattle.spi_flash.specs.Machine.{lentAs}

@@ -13,7 +13,6 @@ use Rattle.spi_flash.specs.Run.{reply, goesOn}
 use Rattle.spi_flash.specs.Seen.{Did, did}
 use Rattle.spi_flash.specs.declared.error.FlashError.{FlashError}
 use Rattle.tape.specs.Tape.{TapeRecord}
-use Rattle.tape.specs.Judge.{firstOf}
 use Rattle.tape.specs.Record.{takenAt, dataOf, spentOf, replyOf}
 use Rattle.tape.specs.Records.{listed, recordsFrom}
 use Rattle.tape.specs.declared.record.Record.{Record}

@@ -13,7 +13,7 @@ use Rattle.spi_flash.specs.declared.error.FlashError.{FlashError}
 use Rattle.spi_flash.specs.declared.loan.Takes.{Takes}
 use Rattle.tape.specs.Record.{takenAt, dataOf, spentOf, replyOf}
 use Rattle.tape.specs.declared.record.Record.{Record}
-use Rattle.tape_runs.specs.Player.{Last, acts, refuses, Awaited, frame, Player}
+use Rattle.tape_runs.specs.Player.{Last, acts, refuses, frame, Player}
 
 -- the one holds just where the other does
 abbrev pub Just : Type 0 → Type 0 → Type 0
