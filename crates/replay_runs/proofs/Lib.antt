@@ -1,2 +1,3 @@
-pub mod Replays
-pub mod Exactly
+pub mod Nor
+pub mod Nand
+pub mod Statements

@@ -1,1 +1,1 @@
-// What holds over a whole replay: specs and proofs alone, no code.
+// What holds over a whole replay of each driver: specs and proofs alone, no code.

@@ -1,0 +1,2 @@
+// Calls of the NAND driver over a reply tape.
+pub mod replay;

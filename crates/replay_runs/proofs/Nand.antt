@@ -1,0 +1,85 @@
+-- The NAND driver's replay goes by the driver's own steps.
+use Prim.Native.Nat.{ℕ}
+use mathlib.Core.Path.{_≡_, refl}
+use mathlib.Core.List.{List, []}
+use Rattle.qspi.specs.Bus.{onBus}
+use Rattle.qspi.specs.declared.bus.Reply.{Reply}
+use Rattle.qspi.proofs.Cases.{by-cases}
+use Rattle.frames.specs.Frame.{exchangeOf}
+use Rattle.frames.specs.declared.frame.Exchanged.{Exchanged}
+use Rattle.spi_flash.specs.Loan.{Lent, readyFor}
+use Rattle.spi_flash.specs.declared.loan.Takes.{Takes}
+use Rattle.tape.specs.Judge.{firstOf}
+use Rattle.tape.specs.Record.{takenAt, spentOf}
+use Rattle.tape_runs.specs.Player.{shownAs}
+use Rattle.tape_runs.proofs.Laws.{Unrefused, Heard, Hears, Stands, Steps, Moves, Follows}
+use Rattle.nand_driver.specs.Step.{settledOf, exchangedThen, proceedOf, stepAt, stepOf}
+use Rattle.nand_driver.specs.declared.state.Given.{Given}
+use Rattle.nand_driver.specs.declared.state.Job.{Job}
+use Rattle.nand_driver.specs.declared.state.Running.{Running}
+use Rattle.nand_driver.specs.declared.state.SpiNandFlash.{SpiNandFlash}
+use Rattle.nand_driver.specs.declared.state.Stepped.{Stepped}
+use Rattle.nand_next.specs.declared.then.Then.{Then}
+use Rattle.nand_runs.specs.Run.{givenAs, steppedAs}
+use Rattle.nand_tape.specs.Replay.{replayAt, begunOver, playedAt, plainOver, recordOver, advancedThen, advancedOver}
+use Rattle.replay_runs.specs.Nand.{lastAs, awaitedAt, playedAs, nandPlayer}
+
+-- what the replay holds shows what the run gives
+shown-same : (given : Given) (flash : SpiNandFlash) (scratch lent : List ℕ) → shownAs (lastAs given flash) scratch lent ≡ givenAs given flash scratch lent
+shown-same (Given.Act action) flash s g = refl
+shown-same (Given.Ended answer) flash s g = refl
+shown-same (Given.Failed error) flash s g = refl
+shown-same (Given.Refused error) flash s g = refl
+
+-- a replay that holds what a step of the driver came to
+stands : (x : Stepped) (next : ℕ) (left : Lent) →
+    Stands nandPlayer (replayAt x next) next (record { given = givenAs (x .given) (x .flash) (left .scratch) (left .given); flash = x .flash; left = left })
+stands x next left = record { flash = refl; shown = shown-same (x .given) (x .flash) (left .scratch) (left .given); at = refl }
+
+steps : (flash : SpiNandFlash) (kind : Reply) (bytes : List ℕ) (l : Lent) (next : ℕ) →
+    Steps nandPlayer (playedAs (playedAt next (stepOf flash kind bytes (l .scratch) (l .buffer) (l .given))) l) flash kind bytes l next
+steps flash kind bytes l next = record { stands = stands _ next _; left = refl }
+
+moves : (stepped : Stepped) (given : Given) (at : ℕ) (tape : List ℕ) (l : Lent) → Moves nandPlayer (lastAs given (stepped .flash))
+    (playedAs (advancedThen given (replayAt stepped at) tape (l .scratch) (l .buffer) (l .given)) l) (replayAt stepped at) tape l
+unfolding advancedThen plainOver recordOver
+moves stepped (Given.Act action) at tape l =
+    by-cases (onBus action)
+    (λ bus. by-cases (spentOf (takenAt tape at .given))
+    (λ none. rw (bus, none) (record { last = refl; left = refl }))
+    (λ some. rw (bus, some) (steps (stepped .flash) _ _ l _)))
+    (λ bus. rw bus (steps (stepped .flash) Reply.Done [] l at))
+moves stepped (Given.Ended answer) at tape l = tt
+moves stepped (Given.Failed error) at tape l = tt
+moves stepped (Given.Refused error) at tape l = tt
+
+-- ---- what is given to a reply
+
+settled-goes-on : (flash : SpiNandFlash) (takes : Takes) (then : Then) (scratch lent : List ℕ) →
+    Unrefused (givenAs (settledOf flash takes then .given) (settledOf flash takes then .flash) scratch lent)
+unfolding settledOf
+settled-goes-on flash takes (Then.Go setup transfer phase) s g = tt
+settled-goes-on flash takes (Then.End setup answer) s g = tt
+settled-goes-on flash takes (Then.Fail error) s g = tt
+
+exchanged : (flash : SpiNandFlash) (job : Job) (n : ℕ) (x : Exchanged) (scratch lent : List ℕ) →
+    Heard x (givenAs (exchangedThen flash job n x .given) (exchangedThen flash job n x .flash) scratch lent)
+exchanged flash job n Exchanged.Misfit s g = refl
+exchanged flash job n (Exchanged.Gave next action) s g = tt
+exchanged flash job n (Exchanged.Over outcome) s g = settled-goes-on flash (job .takes) _ s g
+
+hears : (running : Running) (flash : SpiNandFlash) (kind : Reply) (bytes : List ℕ) (l : Lent) →
+    Hears (awaitedAt running) kind bytes l (steppedAs (stepAt running flash kind bytes (l .scratch) (l .buffer) (l .given)) l .given)
+unfolding proceedOf
+hears Running.Idle flash kind bytes l = refl
+hears (Running.Busy job) flash kind bytes l =
+    let x = exchangeOf (job .frame) kind bytes (l .scratch) (l .buffer) (l .given) in
+    by-cases (readyFor (job .takes) l) (λ ready. rw ready (exchanged flash job _ (x .exchanged) (x .scratch) (l .given))) (λ ready. rw ready refl)
+
+pub follows : Follows nandPlayer
+unfolding begunOver advancedOver stepOf
+follows = record {
+  begins = λ tape accepted flash c l. rw accepted (stands _ (firstOf tape) l);
+  moves = λ r tape l. moves (r .stepped) (r .stepped .given) (r .at) tape l;
+  hears = λ flash kind bytes l. hears (flash .running) flash kind bytes l;
+}

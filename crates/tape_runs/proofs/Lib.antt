@@ -1,0 +1,4 @@
+pub mod Laws
+pub mod Replays
+pub mod Exactly
+pub mod Hearing

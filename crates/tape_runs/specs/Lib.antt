@@ -1,0 +1,3 @@
+pub mod Player
+pub mod Replays
+pub mod Exactly
