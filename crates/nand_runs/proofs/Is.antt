@@ -45,11 +45,11 @@ Flash = General.Flash Setup Phase
 abbrev jobAs : Job → General.Job Phase
 jobAs job = General.jobOf (job .phase) (job .frame) (job .takes)
 
-abbrev runningAs : Running → General.Running Phase
+abbrev pub runningAs : Running → General.Running Phase
 runningAs Running.Idle = idle
 runningAs (Running.Busy job) = busy (jobAs job)
 
-abbrev view : SpiNandFlash → Flash
+abbrev pub view : SpiNandFlash → Flash
 view = viewOf nandDriver (λ flash. flash .delivered) (λ flash. runningAs (flash .running))
 
 abbrev runningBack : General.Running Phase → Running
@@ -86,7 +86,7 @@ exchanges flash job delivered Exchanged.Misfit scratch buffer l = record { given
 exchanges flash job delivered (Exchanged.Gave next action) scratch buffer l = record { given = refl; flash = refl; left = refl }
 exchanges flash job delivered (Exchanged.Over outcome) scratch buffer l = settles flash (job .takes) (nextOf (flash .setup) (job .phase) outcome) scratch buffer l
 
-answers-at : (running : Running) (flash : SpiNandFlash) (r : Reply) (bytes : List ℕ) (l : Lent) →
+pub answers-at : (running : Running) (flash : SpiNandFlash) (r : Reply) (bytes : List ℕ) (l : Lent) →
     Alike view (steppedAs (stepAt running flash r bytes (l .scratch) (l .buffer) (l .given)) l) (answerAt parts (runningAs running) (view flash) r bytes l)
 unfolding proceedOf proceeds
 answers-at Running.Idle flash r bytes l = record { given = refl; flash = refl; left = refl }

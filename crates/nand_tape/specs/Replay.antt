@@ -7,7 +7,7 @@ use Rattle.qspi.specs.declared.bus.Reply.{Reply}
 use Rattle.spi_flash.specs.declared.error.FlashError.{FlashError}
 use Rattle.nand_driver.specs.Step.{Moved, movedTo, refusedOf, stepOf}
 use Rattle.nand_driver.specs.Call.{beginOf}
-use Rattle.nand_next.specs.declared.call.Call.{Call}
+use Rattle.nand_phases.specs.declared.call.Call.{Call}
 use Rattle.nand_driver.specs.declared.state.Given.{Given}
 use Rattle.nand_driver.specs.declared.state.SpiNandFlash.{SpiNandFlash}
 use Rattle.nand_driver.specs.declared.state.Stepped.{Stepped}

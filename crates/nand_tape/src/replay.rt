@@ -3,7 +3,7 @@ use nand_driver::state::Given;
 use nand_driver::state::SpiNandFlash;
 use nand_driver::state::Stepped;
 use nand_driver::step;
-use nand_next::call::Call;
+use nand_phases::call::Call;
 use qspi::bus;
 use qspi::bus::Reply;
 use spi_flash::error::FlashError;

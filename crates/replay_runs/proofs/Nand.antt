@@ -5,22 +5,20 @@ use mathlib.Core.List.{List, []}
 use Rattle.qspi.specs.Bus.{onBus}
 use Rattle.qspi.specs.declared.bus.Reply.{Reply}
 use Rattle.qspi.proofs.Cases.{by-cases}
-use Rattle.frames.specs.Frame.{exchangeOf}
-use Rattle.frames.specs.declared.frame.Exchanged.{Exchanged}
-use Rattle.spi_flash.specs.Loan.{Lent, readyFor}
-use Rattle.spi_flash.specs.declared.loan.Takes.{Takes}
+use Rattle.spi_flash.specs.Loan.{Lent}
 use Rattle.tape.specs.Judge.{firstOf}
 use Rattle.tape.specs.Record.{takenAt, spentOf}
 use Rattle.tape_runs.specs.Player.{shownAs}
-use Rattle.tape_runs.proofs.Laws.{Unrefused, Heard, Hears, Stands, Steps, Moves, Follows}
-use Rattle.nand_driver.specs.Step.{settledOf, exchangedThen, proceedOf, stepAt, stepOf}
+use Rattle.tape_runs.proofs.Laws.{Hears, Stands, Steps, Moves, Follows}
+use Rattle.tape_runs.proofs.Hearing.{general-hears}
+use Rattle.nand_driver.specs.Step.{stepAt, stepOf}
 use Rattle.nand_driver.specs.declared.state.Given.{Given}
-use Rattle.nand_driver.specs.declared.state.Job.{Job}
 use Rattle.nand_driver.specs.declared.state.Running.{Running}
 use Rattle.nand_driver.specs.declared.state.SpiNandFlash.{SpiNandFlash}
 use Rattle.nand_driver.specs.declared.state.Stepped.{Stepped}
-use Rattle.nand_next.specs.declared.then.Then.{Then}
 use Rattle.nand_runs.specs.Run.{givenAs, steppedAs}
+use Rattle.nand_runs.proofs.Is.{runningAs, view, answers-at}
+use Rattle.nand_runs.proofs.Places.{parts}
 use Rattle.nand_tape.specs.Replay.{replayAt, begunOver, playedAt, plainOver, recordOver, advancedThen, advancedOver}
 use Rattle.replay_runs.specs.Nand.{lastAs, awaitedAt, playedAs, nandPlayer}
 
@@ -55,26 +53,10 @@ moves stepped (Given.Refused error) at tape l = tt
 
 -- ---- what is given to a reply
 
-settled-goes-on : (flash : SpiNandFlash) (takes : Takes) (then : Then) (scratch lent : List ℕ) →
-    Unrefused (givenAs (settledOf flash takes then .given) (settledOf flash takes then .flash) scratch lent)
-unfolding settledOf
-settled-goes-on flash takes (Then.Go setup transfer phase) s g = tt
-settled-goes-on flash takes (Then.End setup answer) s g = tt
-settled-goes-on flash takes (Then.Fail error) s g = tt
-
-exchanged : (flash : SpiNandFlash) (job : Job) (n : ℕ) (x : Exchanged) (scratch lent : List ℕ) →
-    Heard x (givenAs (exchangedThen flash job n x .given) (exchangedThen flash job n x .flash) scratch lent)
-exchanged flash job n Exchanged.Misfit s g = refl
-exchanged flash job n (Exchanged.Gave next action) s g = tt
-exchanged flash job n (Exchanged.Over outcome) s g = settled-goes-on flash (job .takes) _ s g
-
 hears : (running : Running) (flash : SpiNandFlash) (kind : Reply) (bytes : List ℕ) (l : Lent) →
     Hears (awaitedAt running) kind bytes l (steppedAs (stepAt running flash kind bytes (l .scratch) (l .buffer) (l .given)) l .given)
-unfolding proceedOf
 hears Running.Idle flash kind bytes l = refl
-hears (Running.Busy job) flash kind bytes l =
-    let x = exchangeOf (job .frame) kind bytes (l .scratch) (l .buffer) (l .given) in
-    by-cases (readyFor (job .takes) l) (λ ready. rw ready (exchanged flash job _ (x .exchanged) (x .scratch) (l .given))) (λ ready. rw ready refl)
+hears (Running.Busy job) flash kind bytes l = rw (answers-at (Running.Busy job) flash kind bytes l .given) (general-hears parts (runningAs (Running.Busy job)) (view flash) kind bytes l)
 
 pub follows : Follows nandPlayer
 unfolding begunOver advancedOver stepOf

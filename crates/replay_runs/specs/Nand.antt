@@ -4,11 +4,12 @@ use Rattle.spi_flash.specs.Loan.{Lent}
 use Rattle.spi_flash.specs.Machine.{lentAs}
 use Rattle.tape_runs.specs.Player as Generic
 use Rattle.tape_runs.specs.Player.{Last, acts, ends, fails, refuses, Awaited, nothing, frame, Player}
-use Rattle.nand_next.specs.declared.call.Call.{Call}
+use Rattle.nand_phases.specs.declared.call.Call.{Call}
 use Rattle.nand_driver.specs.declared.state.Given.{Given}
 use Rattle.nand_driver.specs.declared.state.Running.{Running}
 use Rattle.nand_driver.specs.declared.state.SpiNandFlash.{SpiNandFlash}
-use Rattle.nand_runs.specs.Program.{Left, leaving}
+use Rattle.flash_runs.specs.Driver.{leaving}
+use Rattle.nand_rust.specs.Program.{Left}
 use Rattle.nand_runs.specs.Run.{nand}
 use Rattle.nand_tape.specs.Replay.{Played, begunOver, advancedOver}
 use Rattle.nand_tape.specs.declared.replay.Replay.{Replay}
