@@ -57,7 +57,12 @@ impl SpiNandFlash {
     pub fn write_register(self, register: u8, value: u8, scratch: &[u8]) -> Stepped
         ensures { λ r. ⌜ r ≡ beginOf self (Call.WriteRegister register value) (length (now (scratch .entry))) (length (now (scratch .entry))) (length (now (scratch .entry))) ⌝ }
     {
-        self.begin(Call::WriteRegister { register, value }, scratch, scratch, scratch)
+        self.begin(
+            Call::WriteRegister { register, value },
+            scratch,
+            scratch,
+            scratch,
+        )
     }
 
     pub fn write_enable(self, scratch: &[u8]) -> Stepped

@@ -101,11 +101,7 @@ pub fn opening_of(setup: Setup, call: Call, buffer_len: usize, data_len: usize) 
         Call::Config => Opening::Tells(config(setup)),
         Call::Geometry => Opening::Tells(geometry(setup)),
         Call::Free => Opening::Releases,
-        Call::DisableQuad => plain(go::ask(
-            setup,
-            opcode::REG_CONFIGURATION,
-            Asked::DisableQuad,
-        )),
+        Call::DisableQuad => plain(go::ask(setup, opcode::REG_CONFIGURATION, Asked::DisableQuad)),
         Call::WriteRegister { register, value } => plain(go::enable(
             setup,
             EnableFor::Register {

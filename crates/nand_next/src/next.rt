@@ -148,9 +148,7 @@ fn answered(setup: Setup, asked: Asked, v: u64) -> Then
         Asked::Configured { before, within } => {
             register::check_configuration(setup, before, within, Configuration::from_byte(b))
         }
-        Asked::Unprotect(within) => {
-            register::unprotect(setup, Protection::from_byte(b), within)
-        }
+        Asked::Unprotect(within) => { register::unprotect(setup, Protection::from_byte(b), within) }
         Asked::BroughtUp => register::brought_up(setup, Configuration::from_byte(b)),
         Asked::DisableQuad => register::disable_quad(setup, Configuration::from_byte(b)),
         Asked::QuadDisabled => register::quad_disabled(setup, Configuration::from_byte(b)),

@@ -118,10 +118,7 @@ pub fn load_data(setup: Setup, column: usize, len: usize, phase: Phase) -> Then
             transfer::cache_load_transfer(
                 setup.config,
                 column,
-                Payload::Data {
-                    from: 0,
-                    len: len,
-                },
+                Payload::Data { from: 0, len: len },
             ),
             phase,
         )

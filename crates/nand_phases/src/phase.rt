@@ -101,14 +101,8 @@ pub enum Phase {
     Latching(EnableFor),
     // a command, and wait_ready
     Sending(Task),
-    Looking {
-        task: Task,
-        waited: u32,
-    },
-    Pausing {
-        task: Task,
-        waited: u32,
-    },
+    Looking { task: Task, waited: u32 },
+    Pausing { task: Task, waited: u32 },
     // read_cache: into the caller's buffer, for write_page's comparison, for is_bad_block
     ReadingCache,
     Comparing,
