@@ -1,37 +1,22 @@
-use Rattle.nor_turns.specs.Between.{betweenAt}
+use Rattle.nor_turns.specs.Setting.{configAt}
 use borrow.Author.Needs.{needs}
-use Rattle.nor_turns.proofs.between.between.Statement.{statement}
-use Rattle.nor_turns.proofs.between.between.Tie as tie
+use Rattle.nor_turns.proofs.setting.config_at.Statement.{statement}
+use Rattle.nor_turns.proofs.setting.config_at.Tie as tie
 
 enum-told : tie.Need-enum-told
 enum-told c = search needs
 
-turned-requires : tie.Need-turned-requires
-turned-requires c κs = search needs
-
 enum-told-2 : tie.Need-enum-told-2
 enum-told-2 c = search needs
-
-moved-requires : tie.Need-moved-requires
-moved-requires c κs = search needs
 
 enum-told-3 : tie.Need-enum-told-3
 enum-told-3 c = search needs
 
-left-over-requires : tie.Need-left-over-requires
-left-over-requires c κs = search needs
-
 enum-told-4 : tie.Need-enum-told-4
 enum-told-4 c = search needs
 
-left-over-requires-2 : tie.Need-left-over-requires-2
-left-over-requires-2 c κs = search needs
-
 enum-told-5 : tie.Need-enum-told-5
 enum-told-5 c = search needs
-
-left-over-requires-3 : tie.Need-left-over-requires-3
-left-over-requires-3 c κs = search needs
 
 enum-told-6 : tie.Need-enum-told-6
 enum-told-6 c = search needs
@@ -69,67 +54,59 @@ enum-told-8 c = search needs
 enum-told-9 : tie.Need-enum-told-9
 enum-told-9 c = search needs
 
-turned-requires-2 : tie.Need-turned-requires-2
-turned-requires-2 c κs = search needs
-
 returns : tie.Need-returns
-unfolding betweenAt
-returns c = simp (c .before .enum-told .given .1, c .turned .ensures)
+unfolding configAt
+returns c = simp (c .enum-told .given .1)
 
 returns-2 : tie.Need-returns-2
-unfolding betweenAt
-returns-2 c = simp (c .before .enum-told2 .given .1, c .moved .ensures)
+unfolding configAt
+returns-2 c = simp (c .enum-told2 .given .1)
 
 returns-3 : tie.Need-returns-3
-unfolding betweenAt
-returns-3 c = simp (c .before .enum-told3 .given .1, ← c .left-over .ensures)
+unfolding configAt
+returns-3 c = simp (c .enum-told3 .given .1)
 
 returns-4 : tie.Need-returns-4
-unfolding betweenAt
-returns-4 c = simp (c .before .enum-told4 .given .1, ← c .left-over2 .ensures)
+unfolding configAt
+returns-4 c = simp (c .enum-told4 .given .1)
 
 returns-5 : tie.Need-returns-5
-unfolding betweenAt
-returns-5 c = simp (c .before .enum-told5 .given .1, ← c .left-over3 .ensures)
+unfolding configAt
+returns-5 c = simp (c .enum-told5 .given .1)
 
 returns-6 : tie.Need-returns-6
-unfolding betweenAt
+unfolding configAt
 returns-6 c = simp (c .before .enum-told6 .given .1, c .with-quad .ensures)
 
 returns-7 : tie.Need-returns-7
-unfolding betweenAt
+unfolding configAt
 returns-7 c = simp (c .before .before .before .line .given .1, c .with-quad2 .ensures, ← c .before .quad-setting .ensures)
 
 returns-8 : tie.Need-returns-8
-unfolding betweenAt
+unfolding configAt
 returns-8 c = simp (c .before .enum-told7 .given .1, c .with-device .ensures)
 
 returns-9 : tie.Need-returns-9
-unfolding betweenAt
+unfolding configAt
 returns-9 c = simp (c .before .before .before .line2 .given .1, c .with-device2 .ensures, ← c .before .device-setting .ensures)
 
 returns-10 : tie.Need-returns-10
-unfolding betweenAt
+unfolding configAt
 returns-10 c = simp (c .enum-told8 .given .1)
 
 returns-11 : tie.Need-returns-11
-unfolding betweenAt
-returns-11 c = simp (c .before .enum-told9 .given .1, c .turned2 .ensures)
+unfolding configAt
+returns-11 c = simp (c .enum-told9 .given .1)
 
-pub between-spec : {M : Type 1} → statement M
-between-spec =
+pub config-at-spec : {M : Type 1} → statement M
+config-at-spec =
     tie.close
     (tie.spec
     enum-told
-    turned-requires
     enum-told-2
-    moved-requires
     enum-told-3
-    left-over-requires
     enum-told-4
-    left-over-requires-2
     enum-told-5
-    left-over-requires-3
     enum-told-6
     with-quad-requires
     enum-known-line
@@ -142,7 +119,6 @@ between-spec =
     with-device-requires-2
     enum-told-8
     enum-told-9
-    turned-requires-2
     returns
     returns-2
     returns-3
