@@ -13,13 +13,15 @@ use Rattle.spi_flash.specs.declared.error.FlashError.{FlashError}
 use Rattle.nor_driver.specs.Step.{Moved, refusedOf}
 use Rattle.nor_driver.specs.declared.state.Given.{Given}
 use Rattle.qspi.specs.Bus.{onBus}
+use Rattle.trace_words.specs.declared.heard.Heard.{Heard}
+use Rattle.trace_turns.specs.Place.{readTo}
+use Rattle.trace_turns.specs.Show.{ShownAt, showingOf, badOf}
+use Rattle.trace_turns.specs.declared.place.Mode.{Mode}
 use Rattle.nor_words.specs.Heard.{heardOf}
 use Rattle.nor_words.specs.Lent.{answeredOver}
-use Rattle.nor_words.specs.declared.heard.Heard.{Heard}
-use Rattle.nor_turns.specs.Giving.{Printed, givingOf, showingOf, badOf}
+use Rattle.nor_turns.specs.Giving.{Printed, givingOf}
 use Rattle.nor_turns.specs.Reading.{Called, readingOf}
-use Rattle.nor_turns.specs.State.{inMode, readTo, gaveTo}
-use Rattle.nor_turns.specs.declared.state.Mode.{Mode}
+use Rattle.nor_turns.specs.State.{placedAt, inMode, gaveTo}
 use Rattle.nor_turns.specs.declared.state.Trace.{Trace}
 
 -- ---- a reply to the action that is out
@@ -38,7 +40,7 @@ answeredThen trace next m = answeredTo (gaveTo trace (m .stepped) next) (m .scra
 
 unfoldable pub answeredOf : Trace → Reply → List ℕ → ℕ → List ℕ → List ℕ → Answered
 answeredOf trace reply bytes next scratch room =
-    answeredThen trace next (answeredOver (trace .stepped .flash) reply bytes (trace .lent .takes) scratch room)
+    answeredThen trace next (answeredOver (trace .stepped .flash) reply bytes (trace .place .takes) scratch room)
 
 -- "A reply that does not fit ends the call's lines with E 14, no reply left with E 16"
 unfoldable pub stoppedOf : Trace → FlashError → ℕ → Trace
@@ -67,23 +69,23 @@ dataReply trace line next scratch room reply =
 
 -- "then its replies, one a line, for each bus action in turn"
 abbrev pub repliedAt : Heard → Trace → List ℕ → List ℕ → List ℕ → List ℕ → Replied
-repliedAt Heard.Passed trace text scratch room reply = repliedTo (readTo trace (nextOf text (trace .at))) scratch room reply
+repliedAt Heard.Passed trace text scratch room reply = repliedTo (placedAt trace (readTo (trace .place) (nextOf text (trace .place .at)))) scratch room reply
 repliedAt (Heard.Reply given) trace text scratch room reply =
-    repliedWith reply (answeredOf trace given [] (nextOf text (trace .at)) scratch room)
+    repliedWith reply (answeredOf trace given [] (nextOf text (trace .place .at)) scratch room)
 repliedAt Heard.Bytes trace text scratch room reply =
-    dataReply trace (lineAt text (trace .at)) (nextOf text (trace .at)) scratch room reply
-repliedAt Heard.Spent trace text scratch room reply = repliedTo (stoppedOf trace FlashError.TapeSpent (trace .at)) scratch room reply
+    dataReply trace (lineAt text (trace .place .at)) (nextOf text (trace .place .at)) scratch room reply
+repliedAt Heard.Spent trace text scratch room reply = repliedTo (stoppedOf trace FlashError.TapeSpent (trace .place .at)) scratch room reply
 repliedAt Heard.Bad trace text scratch room reply = repliedTo (inMode trace Mode.Bad) scratch room reply
 
 unfoldable pub repliedOf : Trace → List ℕ → List ℕ → List ℕ → List ℕ → Replied
 repliedOf trace text scratch room reply =
-    repliedAt (heardOf text (trace .at) (trace .config) (length room)) trace text scratch room reply
+    repliedAt (heardOf text (trace .place .at) (trace .config) (length room)) trace text scratch room reply
 
 -- "Select and delay are answered done without a line"
 abbrev pub awaitingAt : Given → Trace → List ℕ → List ℕ → List ℕ → List ℕ → Replied
 awaitingAt (Given.Act action) trace text scratch room reply =
     pick (onBus action) (repliedOf trace text scratch room reply)
-    (repliedWith reply (answeredOf trace Reply.Done [] (trace .at) scratch room))
+    (repliedWith reply (answeredOf trace Reply.Done [] (trace .place .at) scratch room))
 awaitingAt (Given.Ended answer) trace text scratch room reply = repliedTo (inMode trace Mode.Giving) scratch room reply
 awaitingAt (Given.Failed error) trace text scratch room reply = repliedTo (inMode trace Mode.Giving) scratch room reply
 awaitingAt (Given.Refused error) trace text scratch room reply = repliedTo (inMode trace Mode.Giving) scratch room reply
@@ -110,6 +112,9 @@ turnedCalled scratch reply c = turnedTo (c .trace) scratch (c .room) reply (c .t
 abbrev pub turnedPrinted : List ℕ → List ℕ → List ℕ → Printed → Turned
 turnedPrinted scratch room reply p = turnedTo (p .trace) scratch room reply (p .text)
 
+abbrev pub turnedShown : Trace → List ℕ → List ℕ → List ℕ → ShownAt → Turned
+turnedShown trace scratch room reply p = turnedTo (placedAt trace (p .place)) scratch room reply (p .text)
+
 abbrev pub turnedReplied : Text → Replied → Turned
 turnedReplied out a = turnedTo (a .trace) (a .scratch) (a .room) (a .reply) out
 
@@ -117,10 +122,10 @@ abbrev pub advancedAt : Mode → Trace → List ℕ → List ℕ → List ℕ �
 advancedAt Mode.Reading trace text scratch room reply out = turnedCalled scratch reply (readingOf trace text scratch room out)
 advancedAt Mode.Giving trace text scratch room reply out = turnedPrinted scratch room reply (givingOf trace scratch room out)
 advancedAt Mode.Awaiting trace text scratch room reply out = turnedReplied out (awaitingOf trace text scratch room reply)
-advancedAt (Mode.Showing from) trace text scratch room reply out = turnedPrinted scratch room reply (showingOf trace from room out)
-advancedAt Mode.Bad trace text scratch room reply out = turnedPrinted scratch room reply (badOf trace text out)
+advancedAt (Mode.Showing from) trace text scratch room reply out = turnedShown trace scratch room reply (showingOf (trace .place) from room out)
+advancedAt Mode.Bad trace text scratch room reply out = turnedShown trace scratch room reply (badOf (trace .place) text out)
 advancedAt Mode.Over trace text scratch room reply out = turnedTo trace scratch room reply out
 
 -- one turn; a trace that is over stays
 unfoldable pub advancedOf : Trace → List ℕ → List ℕ → List ℕ → List ℕ → Text → Turned
-advancedOf trace text scratch room reply out = advancedAt (trace .mode) trace text scratch room reply out
+advancedOf trace text scratch room reply out = advancedAt (trace .place .mode) trace text scratch room reply out

@@ -1,7 +1,7 @@
-use Rattle.trace.specs.NorTurn.{stoppedOf}
+use Rattle.nor_case.specs.Turn.{stoppedOf}
 use borrow.Author.Needs.{needs}
-use Rattle.trace.proofs.nor_turn.stopped.Statement.{statement}
-use Rattle.trace.proofs.nor_turn.stopped.Tie as tie
+use Rattle.nor_case.proofs.turn.stopped.Statement.{statement}
+use Rattle.nor_case.proofs.turn.stopped.Tie as tie
 
 refused-requires : tie.Need-refused-requires
 refused-requires c κs = search needs

@@ -1,8 +1,8 @@
-use Rattle.trace.proofs.Others.{nothing-out}
-use Rattle.trace.specs.NorTurn.{awaitingOf}
+use Rattle.nor_case.proofs.Others.{nothing-out}
+use Rattle.nor_case.specs.Turn.{awaitingOf}
 use borrow.Author.Needs.{needs}
-use Rattle.trace.proofs.nor_turn.awaiting.Statement.{statement}
-use Rattle.trace.proofs.nor_turn.awaiting.Tie as tie
+use Rattle.nor_case.proofs.turn.awaiting.Statement.{statement}
+use Rattle.nor_case.proofs.turn.awaiting.Tie as tie
 
 enum-known-given : tie.Need-enum-known-given
 enum-known-given c = search needs
@@ -13,7 +13,7 @@ in-mode-requires c κs = search needs
 returns : tie.Need-returns
 unfolding awaitingOf
 returns c =
-    let a = c .before .before .before .before .before .before .before .args in
+    let a = c .before .before .before .before .before .before .before .before .args in
     rw (c .in-mode .ensures) (nothing-out (a .trace .stepped .given) (a .trace) _ _ _ _ (c .before .match .keys2))
 
 on-bus-requires : tie.Need-on-bus-requires

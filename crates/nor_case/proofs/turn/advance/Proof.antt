@@ -1,7 +1,7 @@
-use Rattle.trace.specs.NorTurn.{advancedOf}
+use Rattle.nor_case.specs.Turn.{advancedOf}
 use borrow.Author.Needs.{needs}
-use Rattle.trace.proofs.nor_turn.advance.Statement.{statement}
-use Rattle.trace.proofs.nor_turn.advance.Tie as tie
+use Rattle.nor_case.proofs.turn.advance.Statement.{statement}
+use Rattle.nor_case.proofs.turn.advance.Tie as tie
 
 enum-told : tie.Need-enum-told
 enum-told c = search needs
@@ -30,11 +30,17 @@ enum-known-mode c = search needs
 showing-requires : tie.Need-showing-requires
 showing-requires c κs = search needs
 
+shown-requires : tie.Need-shown-requires
+shown-requires c κs = search needs
+
 enum-told-4 : tie.Need-enum-told-4
 enum-told-4 c = search needs
 
 bad-requires : tie.Need-bad-requires
 bad-requires c κs = search needs
+
+shown-requires-2 : tie.Need-shown-requires-2
+shown-requires-2 c κs = search needs
 
 enum-told-5 : tie.Need-enum-told-5
 enum-told-5 c = search needs
@@ -89,14 +95,14 @@ same-length-11 c = search needs
 
 returns-4 : tie.Need-returns-4
 unfolding advancedOf
-returns-4 c = simp (c .before .before .before .before .before .before .mode .given .1, ← c .before .before .showing .ensures)
+returns-4 c = simp (c .before .before .before .before .before .before .before .mode .given .1, c .shown .ensures, ← c .before .before .before .showing .ensures)
 
 same-length-12 : tie.Need-same-length-12
 same-length-12 c = search needs
 
 returns-5 : tie.Need-returns-5
 unfolding advancedOf
-returns-5 c = simp (c .before .before .before .before .enum-told4 .given .1, ← c .before .before .bad .ensures)
+returns-5 c = simp (c .before .before .before .before .before .enum-told4 .given .1, c .shown2 .ensures, ← c .before .before .before .bad .ensures)
 
 returns-6 : tie.Need-returns-6
 unfolding advancedOf
@@ -115,8 +121,10 @@ advance-spec =
     traced-at-requires
     enum-known-mode
     showing-requires
+    shown-requires
     enum-told-4
     bad-requires
+    shown-requires-2
     enum-told-5
     traced-at-requires-2
     same-length

@@ -1,19 +1,12 @@
 -- A whole case: turns until the trace is over.
-use Prim.Native.Nat.{ℕ, zero, suc, _+_, _*_, _/_}
+use Prim.Native.Nat.{ℕ, zero, suc}
 use mathlib.Core.List.{List}
 use lib.ListN.{length, replicate}
-use lib.Dec.{leb}
 use Rattle.qspi.specs.Choice.{pick}
 use Rattle.lines.specs.Text.{Text, textOf}
-use Rattle.nor_turns.specs.State.{startOf, overOf}
-use Rattle.trace.specs.NorTurn.{Turned, turnedTo, advancedOf}
-
-abbrev pub atMost : ℕ → ℕ → ℕ
-atMost most n = pick (leb n most) n most
-
--- more turns than a text of this length can take with a room of this length
-unfoldable pub budgetOf : ℕ → ℕ → ℕ
-budgetOf text room = (atMost 4194304 text + 2) * (atMost 16777216 room / 16384 + 16)
+use Rattle.trace_turns.specs.Budget.{budgetOf}
+use Rattle.nor_turns.specs.State.{startOf, overAt}
+use Rattle.nor_case.specs.Turn.{Turned, turnedTo, advancedOf}
 
 abbrev pub turnAfter : List ℕ → Turned → Turned
 turnAfter text t = advancedOf (t .trace) text (t .scratch) (t .room) (t .reply) (t .text)
@@ -21,7 +14,7 @@ turnAfter text t = advancedOf (t .trace) text (t .scratch) (t .room) (t .reply) 
 -- so many turns, or fewer where the trace is over before
 unfoldable pub turnsOf : ℕ → List ℕ → Turned → Turned
 turnsOf zero text t = t
-turnsOf (suc more) text t = pick (overOf (t .trace)) t (turnsOf more text (turnAfter text t))
+turnsOf (suc more) text t = pick (overAt (t .trace)) t (turnsOf more text (turnAfter text t))
 
 -- the trace of a case, with the memory that it uses
 unfoldable pub caseOf : List ℕ → List ℕ → List ℕ → List ℕ → Turned

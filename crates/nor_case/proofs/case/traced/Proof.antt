@@ -6,11 +6,11 @@ use lib.ListN.{length}
 use denote.Ref.{now}
 use borrow.Author.Needs.{needs}
 use Rattle.lines.specs.Text.{textOf}
-use Rattle.trace.specs.NorTurn.{Turned, turnedTo}
-use Rattle.trace.specs.NorCase.{turnsOf}
-use Rattle.trace.proofs.Turns.{turn-taken, turns-over, turns-spent, whole-case}
-use Rattle.trace.proofs.nor_case.nor_trace_case.Statement.{statement}
-use Rattle.trace.proofs.nor_case.nor_trace_case.Tie as tie
+use Rattle.nor_case.specs.Turn.{Turned, turnedTo}
+use Rattle.nor_case.specs.Case.{turnsOf}
+use Rattle.nor_case.proofs.Turns.{turn-taken, turns-over, turns-spent, whole-case}
+use Rattle.nor_case.proofs.case.traced.Statement.{statement}
+use Rattle.nor_case.proofs.case.traced.Tie as tie
 
 -- the turns that are left, from the state now on, are those of the whole case
 abbrev Inv-loop : tie.InvT-loop
@@ -92,8 +92,8 @@ returns-2 c =
     let e = turns-spent _ _ _ _ (c .loop-test .left) ∙ c .before .loop .inv .0 ∙ whole-case _ _ _ _ _ _ (budget .before .start .ensures) (budget .budget .ensures) in
     (ap (λ (t : Turned). t .text) e, (ap (λ (t : Turned). t .room) e, ap (λ (t : Turned). t .reply) e))
 
-pub nor-trace-case-spec : {M : Type 1} → statement M
-nor-trace-case-spec =
+pub traced-spec : {M : Type 1} → statement M
+traced-spec =
     tie.close
     (tie.spec
     Inv-loop

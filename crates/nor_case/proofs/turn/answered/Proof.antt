@@ -1,7 +1,7 @@
-use Rattle.trace.specs.NorTurn.{answeredOf}
+use Rattle.nor_case.specs.Turn.{answeredOf}
 use borrow.Author.Needs.{needs}
-use Rattle.trace.proofs.nor_turn.answered.Statement.{statement}
-use Rattle.trace.proofs.nor_turn.answered.Tie as tie
+use Rattle.nor_case.proofs.turn.answered.Statement.{statement}
+use Rattle.nor_case.proofs.turn.answered.Tie as tie
 
 answered-requires : tie.Need-answered-requires
 answered-requires c κs = search needs

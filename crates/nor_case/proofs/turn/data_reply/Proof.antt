@@ -3,10 +3,10 @@ use native.Mathlib.Omega.{arith}
 use lib.ListN.{length}
 use denote.Ref.{now}
 use Rattle.qspi.proofs.Tests.{tests}
-use Rattle.trace.specs.NorTurn.{dataReply}
+use Rattle.nor_case.specs.Turn.{dataReply}
 use borrow.Author.Needs.{needs}
-use Rattle.trace.proofs.nor_turn.data_reply.Statement.{statement}
-use Rattle.trace.proofs.nor_turn.data_reply.Tie as tie
+use Rattle.nor_case.proofs.turn.data_reply.Statement.{statement}
+use Rattle.nor_case.proofs.turn.data_reply.Tie as tie
 
 behind-requires : tie.Need-behind-requires
 behind-requires c κs = search needs

@@ -7,9 +7,9 @@ use mathlib.Core.Path.{_≡_, refl}
 use Rattle.nor_driver.specs.declared.state.Given.{Given}
 use Rattle.nor_driver.proofs.state.Given as given
 use Rattle.nor_turns.specs.State.{inMode}
-use Rattle.nor_turns.specs.declared.state.Mode.{Mode}
+use Rattle.trace_turns.specs.declared.place.Mode.{Mode}
 use Rattle.nor_turns.specs.declared.state.Trace.{Trace}
-use Rattle.trace.specs.NorTurn.{repliedTo, awaitingAt}
+use Rattle.nor_case.specs.Turn.{repliedTo, awaitingAt}
 
 pub nothing-out : (g : Given) (trace : Trace) (text scratch room reply : List ℕ) → OneOf (1 ∷ 2 ∷ 3 ∷ []) (tagOf given.the-type g) →
     repliedTo (inMode trace Mode.Giving) scratch room reply ≡ awaitingAt g trace text scratch room reply

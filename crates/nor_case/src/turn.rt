@@ -6,19 +6,23 @@ use nor_driver::step;
 use nor_turns::giving;
 use nor_turns::reading;
 use nor_turns::state;
-use nor_turns::state::Mode;
 use nor_turns::state::Trace;
 use nor_turns::state::Traced;
 use nor_words::heard;
-use nor_words::heard::Heard;
 use nor_words::lent;
 use qspi::bus;
 use qspi::bus::Reply;
 use qspi::bytes;
 use spi_flash::error::FlashError;
+use trace_turns::place;
+use trace_turns::place::Mode;
+use trace_turns::show;
+use trace_turns::show::Shown;
+use trace_words::heard::Heard;
 ghost use mathlib.Core.Path.{_≡_};
 ghost use Rattle.lines.specs.Text.{textOf};
-ghost use Rattle.trace.specs.NorTurn.{answeredTo, answeredOf, stoppedOf, repliedTo, dataReply, repliedOf, awaitingOf, turnedTo, advancedOf};
+ghost use Rattle.nor_turns.specs.State.{placedAt, tracedAt};
+ghost use Rattle.nor_case.specs.Turn.{answeredTo, answeredOf, stoppedOf, repliedTo, dataReply, repliedOf, awaitingOf, turnedTo, advancedOf};
 
 // ---- a reply to the action that is out
 
@@ -35,8 +39,8 @@ fn answered(
 {
     let stepped = trace.stepped;
     let flash = stepped.flash;
-    let lent = trace.lent;
-    let takes = lent.takes;
+    let place = trace.place;
+    let takes = place.takes;
     let given = lent::answered(flash, reply, bytes, takes, scratch, room);
     state::gave(trace, given, next)
 }
@@ -85,11 +89,12 @@ fn replied(
 ) -> Trace
     ensures { λ r. ⌜ repliedTo r (now (scratch .exit)) (now (room .exit)) (now (reply .exit)) ≡ repliedOf trace (now (text .entry)) (now (scratch .entry)) (now (room .entry)) (now (reply .entry)) ⌝ }
 {
-    let from = trace.at;
+    let place = trace.place;
+    let from = place.at;
     let config = trace.config;
     let next = line::next_line(text, from);
     match heard::heard_at(text, from, config, room.len()) {
-        Heard::Passed => state::read_to(trace, next),
+        Heard::Passed => state::placed(trace, place::read_to(place, next)),
         Heard::Reply(given) => {
             let nothing = [0u8; 0];
             answered(trace, given, &nothing, next, scratch, room)
@@ -110,6 +115,7 @@ fn awaiting(
 ) -> Trace
     ensures { λ r. ⌜ repliedTo r (now (scratch .exit)) (now (room .exit)) (now (reply .exit)) ≡ awaitingOf trace (now (text .entry)) (now (scratch .entry)) (now (room .entry)) (now (reply .entry)) ⌝ }
 {
+    let place = trace.place;
     let stepped = trace.stepped;
     let given = stepped.given;
     let Given::Act(action) = given else {
@@ -119,10 +125,17 @@ fn awaiting(
         return replied(trace, text, scratch, room, reply);
     }
     let nothing = [0u8; 0];
-    answered(trace, Reply::Done, &nothing, trace.at, scratch, room)
+    answered(trace, Reply::Done, &nothing, place.at, scratch, room)
 }
 
 // ---- any turn
+
+fn shown(trace: Trace, after: Shown) -> Traced
+    ensures { λ r. ⌜ r ≡ tracedAt (placedAt trace (after .place)) (after .at) ⌝ }
+{
+    let place = after.place;
+    state::traced_at(state::placed(trace, place), after.at)
+}
 
 // One turn. A trace that is over stays as it is.
 pub fn advance(
@@ -136,7 +149,8 @@ pub fn advance(
 ) -> Traced
     ensures { λ r. ⌜ turnedTo (r .trace) (now (scratch .exit)) (now (room .exit)) (now (reply .exit)) (textOf (now (out .exit)) (r .at)) ≡ advancedOf trace (now (text .entry)) (now (scratch .entry)) (now (room .entry)) (now (reply .entry)) (textOf (now (out .entry)) at) ⌝ }
 {
-    let mode = trace.mode;
+    let place = trace.place;
+    let mode = place.mode;
     match mode {
         Mode::Reading => reading::reading(trace, text, scratch, room, out, at),
         Mode::Giving => giving::giving(trace, scratch, room, out, at),
@@ -144,8 +158,8 @@ pub fn advance(
             let next = awaiting(trace, text, scratch, room, reply);
             state::traced_at(next, at)
         }
-        Mode::Showing(from) => giving::showing(trace, from, room, out, at),
-        Mode::Bad => giving::bad(trace, text, out, at),
+        Mode::Showing(from) => shown(trace, show::showing(place, from, room, out, at)),
+        Mode::Bad => shown(trace, show::bad(place, text, out, at)),
         Mode::Over => state::traced_at(trace, at),
     }
 }

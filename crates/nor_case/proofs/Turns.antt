@@ -6,19 +6,20 @@ use mathlib.Core.List.{List}
 use lib.ListN.{length, replicate}
 use mathlib.Core.Path.{_≡_, refl}
 use Rattle.lines.specs.Text.{textOf}
-use Rattle.nor_turns.specs.State.{startOf, overOf}
-use Rattle.trace.specs.NorTurn.{Turned, turnedTo}
-use Rattle.trace.specs.NorCase.{budgetOf, turnAfter, turnsOf, caseOf}
+use Rattle.trace_turns.specs.Budget.{budgetOf}
+use Rattle.nor_turns.specs.State.{startOf, overAt}
+use Rattle.nor_case.specs.Turn.{Turned, turnedTo}
+use Rattle.nor_case.specs.Case.{turnAfter, turnsOf, caseOf}
 use Rattle.nor_turns.specs.declared.state.Trace.{Trace}
 
-pub turn-taken : (most i : ℕ) (text : List ℕ) (t : Turned) → i < most → overOf (t .trace) ≡ false →
+pub turn-taken : (most i : ℕ) (text : List ℕ) (t : Turned) → i < most → overAt (t .trace) ≡ false →
     turnsOf (most - (i + 1)) text (turnAfter text t) ≡ turnsOf (most - i) text t
 unfolding turnsOf
 turn-taken most i text t h goes =
     let one-less : most - i ≡ suc (most - (i + 1)) = omega arith in
     rw (one-less, goes)
 
-pub turns-over : (n : ℕ) (text : List ℕ) (t : Turned) → overOf (t .trace) ≡ true → t ≡ turnsOf n text t
+pub turns-over : (n : ℕ) (text : List ℕ) (t : Turned) → overAt (t .trace) ≡ true → t ≡ turnsOf n text t
 unfolding turnsOf
 turns-over zero text t over = refl
 turns-over (suc n) text t over = rw over

@@ -1,7 +1,7 @@
-use Rattle.trace.specs.NorTurn.{repliedOf}
+use Rattle.nor_case.specs.Turn.{repliedOf}
 use borrow.Author.Needs.{needs}
-use Rattle.trace.proofs.nor_turn.replied.Statement.{statement}
-use Rattle.trace.proofs.nor_turn.replied.Tie as tie
+use Rattle.nor_case.proofs.turn.replied.Statement.{statement}
+use Rattle.nor_case.proofs.turn.replied.Tie as tie
 
 next-line-requires : tie.Need-next-line-requires
 next-line-requires c κs = search needs
@@ -14,6 +14,9 @@ enum-told c = search needs
 
 read-to-requires : tie.Need-read-to-requires
 read-to-requires c κs = search needs
+
+placed-requires : tie.Need-placed-requires
+placed-requires c κs = search needs
 
 enum-known-given : tie.Need-enum-known-given
 enum-known-given c = search needs
@@ -47,7 +50,7 @@ in-mode-requires c κs = search needs
 
 returns : tie.Need-returns
 unfolding repliedOf
-returns c = simp (c .before .enum-told .given .1, c .read-to .ensures, ← c .before .before .before .heard-at .ensures, ← c .before .before .before .before .next-line .ensures)
+returns c = simp (c .before .before .enum-told .given .1, c .placed .ensures, c .before .read-to .ensures, ← c .before .before .before .before .heard-at .ensures, ← c .before .before .before .before .before .next-line .ensures)
 
 same-length : tie.Need-same-length
 same-length c = search needs
@@ -88,6 +91,7 @@ replied-spec =
     heard-at-requires
     enum-told
     read-to-requires
+    placed-requires
     enum-known-given
     slice-aggregate-answered
     answered-requires
