@@ -12,13 +12,13 @@ use Rattle.spi_nand.specs.declared.config.GeometrySetting.{GeometrySetting}
 use Rattle.spi_nand.specs.declared.config.NandGeometry.{NandGeometry}
 use Rattle.spi_nand.specs.declared.config.SpiNandConfig.{SpiNandConfig}
 use Rattle.nand_answers.specs.declared.answer.Answer.{Answer}
+use Rattle.nand_phases.specs.declared.call.Call.{Call}
 use Rattle.nand_phases.specs.declared.phase.Phase.{Phase}
 use Rattle.nand_phases.specs.declared.setup.Setup.{Setup}
-use Rattle.nand_next.specs.Go.{goTo}
-use Rattle.nand_next.specs.Call.{openingOf}
-use Rattle.nand_next.specs.declared.call.Call.{Call}
-use Rattle.nand_next.specs.declared.call.Opening.{Opening}
-use Rattle.nand_next.specs.declared.then.Then.{Then}
+use Rattle.nand_steps.specs.Go.{goTo}
+use Rattle.nand_steps.specs.declared.then.Then.{Then}
+use Rattle.nand_next.specs.Opening.{openingOf}
+use Rattle.nand_next.specs.declared.opening.Opening.{Opening}
 use Rattle.nand_driver.specs.Step.{flashOf, refusedOf, settledOf}
 use Rattle.nand_driver.specs.declared.state.Given.{Given}
 use Rattle.nand_driver.specs.declared.state.Running.{Running}

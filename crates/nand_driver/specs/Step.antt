@@ -7,15 +7,18 @@ use Rattle.qspi.specs.Choice.{pick}
 use Rattle.frames.specs.Frame.{AfterExchange, firstOf, actionOf, exchangeOf, deliveredBy}
 use Rattle.qspi.specs.declared.bus.Action.{Action}
 use Rattle.qspi.specs.declared.bus.Reply.{Reply}
+use Rattle.qspi.specs.declared.transfer.Transfer.{Transfer}
 use Rattle.frames.specs.declared.frame.Exchanged.{Exchanged}
 use Rattle.frames.specs.declared.frame.Frame.{Frame}
+use Rattle.frames.specs.declared.frame.Outcome.{Outcome}
 use Rattle.spi_flash.specs.Loan.{readyOf}
 use Rattle.spi_flash.specs.declared.error.FlashError.{FlashError}
 use Rattle.spi_flash.specs.declared.loan.Takes.{Takes}
 use Rattle.nand_next.specs.Next.{nextOf}
 use Rattle.nand_answers.specs.declared.answer.Answer.{Answer}
+use Rattle.nand_phases.specs.declared.phase.Phase.{Phase}
 use Rattle.nand_phases.specs.declared.setup.Setup.{Setup}
-use Rattle.nand_next.specs.declared.then.Then.{Then}
+use Rattle.nand_steps.specs.declared.then.Then.{Then}
 use Rattle.nand_driver.specs.declared.state.Given.{Given}
 use Rattle.nand_driver.specs.declared.state.Job.{Job}
 use Rattle.nand_driver.specs.declared.state.Running.{Running}
@@ -47,12 +50,16 @@ endedOf setup delivered answer = record { flash = flashOf setup true delivered R
 abbrev pub failedOf : SpiNandFlash → FlashError → Stepped
 failedOf flash error = record { flash = flashOf (flash .setup) (flash .built) (flash .delivered) Running.Idle; given = Given.Failed error }
 
--- gives out the first action of the next transfer, or ends the call
-unfoldable pub settledOf : SpiNandFlash → Takes → Then → Stepped
-settledOf flash takes (Then.Go setup transfer phase) =
+-- gives out the first action of a transfer
+abbrev pub startOf : SpiNandFlash → Takes → Setup → Transfer → Phase → Stepped
+startOf flash takes setup transfer phase =
     startedOf
     (flashOf setup (flash .built) (flash .delivered) (Running.Busy (record { phase = phase; frame = firstOf transfer; takes = takes })))
     (actionOf (firstOf transfer))
+
+-- goes on with the next transfer, or ends the call
+unfoldable pub settledOf : SpiNandFlash → Takes → Then → Stepped
+settledOf flash takes (Then.Go setup transfer phase) = startOf flash takes setup transfer phase
 settledOf flash takes (Then.End setup answer) = endedOf setup (flash .delivered) answer
 settledOf flash takes (Then.Fail error) = failedOf flash error
 
@@ -63,10 +70,14 @@ gaveOf flash job next delivered action =
     (flashOf (flash .setup) (flash .built) delivered (Running.Busy (record { phase = job .phase; frame = next; takes = job .takes })))
     action
 
+-- the transfer that was out is over
+abbrev pub overOf : SpiNandFlash → Job → Outcome → Stepped
+overOf flash job outcome = settledOf flash (job .takes) (nextOf (flash .setup) (job .phase) outcome)
+
 abbrev pub exchangedThen : SpiNandFlash → Job → ℕ → Exchanged → Stepped
 exchangedThen flash job delivered Exchanged.Misfit = refusedOf flash FlashError.Misfit
 exchangedThen flash job delivered (Exchanged.Gave next action) = gaveOf flash job next delivered action
-exchangedThen flash job delivered (Exchanged.Over outcome) = settledOf flash (job .takes) (nextOf (flash .setup) (job .phase) outcome)
+exchangedThen flash job delivered (Exchanged.Over outcome) = overOf flash job outcome
 
 abbrev pub afterwards : SpiNandFlash → Job → ℕ → AfterExchange → Moved
 afterwards flash job delivered x = movedTo (exchangedThen flash job delivered (x .exchanged)) (x .scratch) (x .buffer)

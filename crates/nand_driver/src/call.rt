@@ -5,13 +5,13 @@ use crate::state::SpiNandFlash;
 use crate::state::Stepped;
 use crate::step;
 use nand_answers::answer::Answer;
-use nand_next::call;
-use nand_next::call::Call;
-use nand_next::call::Opening;
-use nand_next::go;
-use nand_next::then::Then;
+use nand_next::opening;
+use nand_next::opening::Opening;
+use nand_phases::call::Call;
 use nand_phases::phase::Phase;
 use nand_phases::setup::Setup;
+use nand_steps::go;
+use nand_steps::then::Then;
 use qspi::command::SCRATCH_LEN;
 use qspi::transfer::Transfer;
 use spi_flash::error::FlashError;
@@ -109,12 +109,14 @@ fn opened(flash: SpiNandFlash, takes: Takes, then: Then) -> Stepped
 {
     let setup = flash.setup;
     match then {
-        Then::Fail(error) => step::refused(flash, error),
-        _ => step::settle(
-            step::flash_of(setup, flash.built, 0, Running::Idle),
-            takes,
-            then,
-        ),
+        Then::Fail(error) => return step::refused(flash, error),
+        _ => {
+            return step::settle(
+                step::flash_of(setup, flash.built, 0, Running::Idle),
+                takes,
+                then,
+            );
+        }
     }
 }
 
@@ -142,10 +144,10 @@ fn idle(flash: SpiNandFlash, opening: Opening, scratch_len: usize) -> Stepped
     ensures { λ r. ⌜ r ≡ idleOf flash opening «scratch_len» ⌝ }
 {
     match opening {
-        Opening::Constructs(config) => construct(flash, config, scratch_len),
-        Opening::Tells(answer) => told(flash, answer),
-        Opening::Releases => freed(flash),
-        Opening::Uses { takes, then } => begun(flash, scratch_len, takes, then),
+        Opening::Constructs(config) => return construct(flash, config, scratch_len),
+        Opening::Tells(answer) => return told(flash, answer),
+        Opening::Releases => return freed(flash),
+        Opening::Uses { takes, then } => return begun(flash, scratch_len, takes, then),
     }
 }
 
@@ -156,12 +158,14 @@ impl SpiNandFlash {
     {
         let running = self.running;
         match running {
-            Running::Idle => idle(
-                self,
-                call::opening_of(self.setup, call, buffer.len(), data.len()),
-                scratch.len(),
-            ),
-            Running::Busy(_) => step::refused(self, FlashError::OutOfTurn),
+            Running::Idle => {
+                return idle(
+                    self,
+                    opening::opening_of(self.setup, call, buffer.len(), data.len()),
+                    scratch.len(),
+                );
+            }
+            Running::Busy(_) => return step::refused(self, FlashError::OutOfTurn),
         }
     }
 }

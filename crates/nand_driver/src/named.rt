@@ -1,7 +1,7 @@
 // The calls under the Rust's names. What a call does not take is not looked at, so the scratch stands in for it.
 use crate::state::SpiNandFlash;
 use crate::state::Stepped;
-use nand_next::call::Call;
+use nand_phases::call::Call;
 use spi_nand::config::SpiNandConfig;
 ghost use mathlib.Core.Path.{_≡_};
 ghost use lib.ListN.{length};
@@ -161,9 +161,21 @@ impl SpiNandFlash {
         self.begin(Call::EraseBlock { block }, scratch, scratch, scratch)
     }
 
+    pub fn read(self, offset: usize, scratch: &[u8], buffer: &[u8]) -> Stepped
+        ensures { λ r. ⌜ r ≡ beginOf self (Call.Read offset) (length (now (scratch .entry))) (length (now (buffer .entry))) (length (now (buffer .entry))) ⌝ }
+    {
+        self.begin(Call::Read { offset }, scratch, buffer, buffer)
+    }
+
     pub fn is_bad_block(self, block: usize, scratch: &[u8]) -> Stepped
         ensures { λ r. ⌜ r ≡ beginOf self (Call.IsBadBlock block) (length (now (scratch .entry))) (length (now (scratch .entry))) (length (now (scratch .entry))) ⌝ }
     {
         self.begin(Call::IsBadBlock { block }, scratch, scratch, scratch)
+    }
+
+    pub fn mark_bad_block(self, block: usize, scratch: &[u8]) -> Stepped
+        ensures { λ r. ⌜ r ≡ beginOf self (Call.MarkBadBlock block) (length (now (scratch .entry))) (length (now (scratch .entry))) (length (now (scratch .entry))) ⌝ }
+    {
+        self.begin(Call::MarkBadBlock { block }, scratch, scratch, scratch)
     }
 }

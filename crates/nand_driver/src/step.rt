@@ -8,18 +8,21 @@ use frames::exchange;
 use frames::frame;
 use frames::frame::Exchanged;
 use frames::frame::Frame;
+use frames::frame::Outcome;
 use nand_answers::answer::Answer;
 use nand_next::next;
-use nand_next::then::Then;
+use nand_phases::phase::Phase;
 use nand_phases::setup::Setup;
+use nand_steps::then::Then;
 use qspi::bus::Action;
 use qspi::bus::Reply;
+use qspi::transfer::Transfer;
 use spi_flash::error::FlashError;
 use spi_flash::loan;
 use spi_flash::loan::Takes;
 ghost use mathlib.Core.Path.{_≡_};
 ghost use lib.ListN.{length};
-ghost use Rattle.nand_driver.specs.Step.{refusedOf, flashOf, startedOf, endedOf, failedOf, settledOf, gaveOf, movedTo, proceedOf, stepOf, deliveredPart};
+ghost use Rattle.nand_driver.specs.Step.{refusedOf, flashOf, startedOf, endedOf, failedOf, startOf, settledOf, gaveOf, overOf, movedTo, proceedOf, stepOf, deliveredPart};
 
 // The state unchanged, and why.
 pub fn refused(flash: SpiNandFlash, error: FlashError) -> Stepped
@@ -70,7 +73,30 @@ fn failed(flash: SpiNandFlash, error: FlashError) -> Stepped
     }
 }
 
-// Gives out the first action of the next transfer, or ends the call. A call that has succeeded leaves the driver built.
+// Gives out the first action of a transfer.
+fn start(
+    flash: SpiNandFlash,
+    takes: Takes,
+    setup: Setup,
+    transfer: Transfer,
+    phase: Phase,
+) -> Stepped
+    ensures { λ r. ⌜ r ≡ startOf flash takes setup transfer phase ⌝ }
+{
+    let first = frame::first(transfer);
+    let action = frame::pending(first);
+    let job = Job {
+        phase: phase,
+        frame: first,
+        takes: takes,
+    };
+    acting(
+        flash_of(setup, flash.built, flash.delivered, Running::Busy(job)),
+        action,
+    )
+}
+
+// Goes on with the next transfer, or ends the call. A call that has succeeded leaves the driver built.
 pub fn settle(flash: SpiNandFlash, takes: Takes, then: Then) -> Stepped
     ensures { λ r. ⌜ r ≡ settledOf flash takes then ⌝ }
 {
@@ -79,21 +105,9 @@ pub fn settle(flash: SpiNandFlash, takes: Takes, then: Then) -> Stepped
             setup,
             transfer,
             phase,
-        } => {
-            let first = frame::first(transfer);
-            let action = frame::pending(first);
-            let job = Job {
-                phase: phase,
-                frame: first,
-                takes: takes,
-            };
-            acting(
-                flash_of(setup, flash.built, flash.delivered, Running::Busy(job)),
-                action,
-            )
-        }
-        Then::End { setup, answer } => succeeded(setup, flash.delivered, answer),
-        Then::Fail(error) => failed(flash, error),
+        } => return start(flash, takes, setup, transfer, phase),
+        Then::End { setup, answer } => return succeeded(setup, flash.delivered, answer),
+        Then::Fail(error) => return failed(flash, error),
     }
 }
 
@@ -115,6 +129,16 @@ fn gave(flash: SpiNandFlash, job: Job, next: Frame, delivered: usize, action: Ac
     )
 }
 
+// The transfer that was out is over.
+fn over(flash: SpiNandFlash, job: Job, outcome: Outcome) -> Stepped
+    ensures { λ r. ⌜ r ≡ overOf flash job outcome ⌝ }
+{
+    let setup = flash.setup;
+    let phase = job.phase;
+    let takes = job.takes;
+    settle(flash, takes, next::next(setup, phase, outcome))
+}
+
 fn proceed(
     flash: SpiNandFlash,
     job: Job,
@@ -131,17 +155,12 @@ fn proceed(
     let delivered = exchange::delivered_by(out, reply, bytes.len(), buffer.len(), flash.delivered);
     if loan::ready(takes, scratch.len(), buffer.len(), data.len()) {
         match exchange::exchange(out, reply, bytes, scratch, buffer, data) {
-            Exchanged::Misfit => refused(flash, FlashError::Misfit),
-            Exchanged::Gave { frame, action } => gave(flash, job, frame, delivered, action),
-            Exchanged::Over(outcome) => {
-                let phase = job.phase;
-                let setup = flash.setup;
-                settle(flash, takes, next::next(setup, phase, outcome))
-            }
+            Exchanged::Misfit => return refused(flash, FlashError::Misfit),
+            Exchanged::Gave { frame, action } => return gave(flash, job, frame, delivered, action),
+            Exchanged::Over(outcome) => return over(flash, job, outcome),
         }
-    } else {
-        refused(flash, FlashError::Misfit)
     }
+    refused(flash, FlashError::Misfit)
 }
 
 // Takes the reply to the action that is out, and gives the next action or the call's end.
@@ -157,8 +176,8 @@ pub fn step(
 {
     let running = flash.running;
     match running {
-        Running::Idle => refused(flash, FlashError::OutOfTurn),
-        Running::Busy(job) => proceed(flash, job, reply, bytes, scratch, buffer, data),
+        Running::Idle => return refused(flash, FlashError::OutOfTurn),
+        Running::Busy(job) => return proceed(flash, job, reply, bytes, scratch, buffer, data),
     }
 }
 

@@ -1,5 +1,3 @@
-pub mod Go
-pub mod Register
-pub mod Page
+pub mod Wait
 pub mod Next
-pub mod Call
+pub mod Opening

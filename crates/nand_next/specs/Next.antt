@@ -1,31 +1,33 @@
 -- What follows each transfer of a call: nand/driver.rs, cut where it uses the bus.
 use Prim.Native.Nat.{ℕ, _%_}
 use Rattle.qspi.specs.Choice.{pick}
+use Rattle.qspi.specs.declared.transfer.Payload.{Payload}
 use Rattle.frames.specs.declared.frame.Outcome.{Outcome}
-use Rattle.qspi.specs.declared.transfer.Transfer.{Transfer}
-use Rattle.spi_flash.specs.Wait.{firstWait, nextWait}
 use Rattle.spi_flash.specs.declared.error.FlashError.{FlashError}
-use Rattle.spi_flash.specs.declared.wait.Wait.{Wait}
-use Rattle.spi_nand.specs.Command.{resetCommand, setFeatureCommand, blockEraseCommand}
+use Rattle.spi_nand.specs.Command.{setFeatureCommand, blockEraseCommand}
 use Rattle.spi_nand.specs.Config.{firstPageOf}
-use Rattle.spi_nand.specs.Opcode.{REG-STATUS, timingsOf}
-use Rattle.spi_nand.specs.Status.{statusOf, busyOf, writeEnabledOf, configurationOf, protectionOf}
+use Rattle.spi_nand.specs.Status.{statusOf, writeEnabledOf, configurationOf, protectionOf}
 use Rattle.spi_nand.specs.declared.config.NandJedecId.{NandJedecId}
 use Rattle.spi_nand.specs.declared.status.Status.{Status}
 use Rattle.nand_answers.specs.declared.answer.Answer.{Answer}
-use Rattle.nand_phases.specs.Transfer.{taskOperation}
 use Rattle.nand_phases.specs.declared.phase.Asked.{Asked}
 use Rattle.nand_phases.specs.declared.phase.EnableFor.{EnableFor}
+use Rattle.nand_phases.specs.declared.phase.EraseFor.{EraseFor}
 use Rattle.nand_phases.specs.declared.phase.Phase.{Phase}
 use Rattle.nand_phases.specs.declared.phase.ProgramFor.{ProgramFor}
+use Rattle.nand_phases.specs.declared.phase.RegisterFor.{RegisterFor}
 use Rattle.nand_phases.specs.declared.phase.ResetFor.{ResetFor}
 use Rattle.nand_phases.specs.declared.phase.Task.{Task}
 use Rattle.nand_phases.specs.declared.phase.Within.{Within}
 use Rattle.nand_phases.specs.declared.setup.Setup.{Setup}
-use Rattle.nand_next.specs.Go.{goTo, endWith, done, ask, askId, look, send}
-use Rattle.nand_next.specs.Register.{idOf, identifiedThen, configureThen, checkConfiguration, unprotectThen, broughtUp, disableQuad, quadDisabled, writtenThen}
-use Rattle.nand_next.specs.Page.{loadDataThen, loadedThen, judgedThen, programThen, programmedThen, comparedThen, markerThen, erasedThen}
-use Rattle.nand_next.specs.declared.then.Then.{Then}
+use Rattle.nand_steps.specs.Block.{erasedThen, markerThen, fillFrom, filledThen, markThen}
+use Rattle.nand_steps.specs.Cache.{comparedThen, loadProgramThen}
+use Rattle.nand_steps.specs.Go.{endWith, done, look, send, reset}
+use Rattle.nand_steps.specs.Page.{judgedThen, programThen, programmedThen}
+use Rattle.nand_steps.specs.Read.{pieceReadThen}
+use Rattle.nand_steps.specs.Register.{idOf, identifiedThen, configureThen, checkConfiguration, unprotectThen, broughtUp, disableQuad, quadDisabled}
+use Rattle.nand_steps.specs.declared.then.Then.{Then}
+use Rattle.nand_next.specs.Wait.{lookThen, sentThen, lookedThen}
 
 -- buffer[0] of a register's one byte
 abbrev pub byteOf : ℕ → ℕ
@@ -33,40 +35,38 @@ byteOf v = v % 256
 
 -- ---- write_enable, and what it is for
 
+-- write_register: its command
+abbrev pub writeThen : Setup → ℕ → ℕ → RegisterFor → Then
+writeThen setup register value why = send setup (setFeatureCommand register value) (Task.Register why)
+
+-- write_page: `self.load_program_data(0, data)`
+abbrev pub loadPageThen : Setup → ℕ → Then
+loadPageThen setup page = loadProgramThen setup 0 (Payload.Data 0 (setup .geometry .«page_size»)) (Phase.LoadingPage page)
+
+-- erase_block: its command
+abbrev pub startErase : Setup → ℕ → EraseFor → Then
+startErase setup block why = send setup (blockEraseCommand (firstPageOf (setup .geometry) block)) (Task.Erase why)
+
+-- what stands behind `self.write_enable()?` of each
 unfoldable pub enabledThen : Setup → EnableFor → Then
 enabledThen setup EnableFor.Call = done setup
-enabledThen setup (EnableFor.Register register value why) = send setup (setFeatureCommand register value) (Task.Register why)
-enabledThen setup (EnableFor.WritePage page) = loadDataThen setup 0 (setup .geometry .«page_size») (Phase.LoadingPage page)
-enabledThen setup (EnableFor.Erase block) = send setup (blockEraseCommand (firstPageOf (setup .geometry) block)) Task.Erase
+enabledThen setup (EnableFor.Register register value why) = writeThen setup register value why
+enabledThen setup (EnableFor.WritePage page) = loadPageThen setup page
+enabledThen setup (EnableFor.Erase block why) = startErase setup block why
+enabledThen setup (EnableFor.MarkBad block) = fillFrom setup block 0
 
+-- write_enable: `if !self.read_status()?.write_enabled()`
 unfoldable pub latchedThen : Setup → EnableFor → Status → Then
 latchedThen setup why status = pick (writeEnabledOf status) (enabledThen setup why) (Then.Fail FlashError.WriteEnableFailed)
 
--- ---- wait_ready, and what it is for
-
-unfoldable pub resetThen : Setup → ResetFor → Then
-resetThen setup ResetFor.Reset = done setup
-resetThen setup (ResetFor.Identify within) = askId setup within
-
-unfoldable pub resumeTask : Setup → Task → Then
-resumeTask setup (Task.Reset why) = resetThen setup why
-resumeTask setup (Task.Register why) = writtenThen setup why
-resumeTask setup (Task.Load why) = loadedThen setup why
-resumeTask setup (Task.Program why) = ask setup REG-STATUS (Asked.Programmed why)
-resumeTask setup Task.Erase = ask setup REG-STATUS Asked.Erased
-
-unfoldable pub waitThen : Setup → Task → Wait → Then
-waitThen setup task Wait.Look = look setup (Phase.Looking task 0)
-waitThen setup task (Wait.Pause us waited) = goTo setup (Transfer.Pause us) (Phase.Pausing task waited)
-waitThen setup task Wait.Ready = resumeTask setup task
-waitThen setup task Wait.Timeout = Then.Fail FlashError.Timeout
-
 -- ---- what was asked
 
+-- jedec_id, reset_and_identify; bring_up
 unfoldable pub identifyThen : Setup → NandJedecId → Within → Then
 identifyThen setup id Within.Call = endWith setup (Answer.Id id)
 identifyThen setup id Within.BringUp = identifiedThen setup id
 
+-- what stands behind the read of a register, or of the id
 unfoldable pub answeredThen : Setup → Asked → ℕ → Then
 answeredThen setup Asked.Status v = endWith setup (Answer.Status (statusOf (byteOf v)))
 answeredThen setup Asked.Configuration v = endWith setup (Answer.Configuration (configurationOf (byteOf v)))
@@ -80,25 +80,28 @@ answeredThen setup Asked.DisableQuad v = disableQuad setup (configurationOf (byt
 answeredThen setup Asked.QuadDisabled v = quadDisabled setup (configurationOf (byteOf v))
 answeredThen setup (Asked.Verdict why) v = judgedThen setup why (statusOf (byteOf v))
 answeredThen setup (Asked.Programmed why) v = programmedThen setup why (statusOf (byteOf v))
-answeredThen setup Asked.Erased v = erasedThen setup (statusOf (byteOf v))
+answeredThen setup (Asked.Erased why) v = erasedThen setup why (statusOf (byteOf v))
 
 -- ---- what follows a transfer that gave v
 
 unfoldable pub afterPhase : Setup → Phase → ℕ → Then
-afterPhase setup Phase.Raised v = send setup resetCommand (Task.Reset (ResetFor.Identify Within.BringUp))
+afterPhase setup Phase.Raised v = reset setup (ResetFor.Identify Within.BringUp)
 afterPhase setup (Phase.Asking asked) v = answeredThen setup asked v
 afterPhase setup (Phase.Enabling why) v = look setup (Phase.Latching why)
 afterPhase setup (Phase.Latching why) v = latchedThen setup why (statusOf (byteOf v))
-afterPhase setup (Phase.Sending task) v = waitThen setup task (firstWait (timingsOf (taskOperation task)))
-afterPhase setup (Phase.Looking task waited) v =
-    waitThen setup task (nextWait (timingsOf (taskOperation task)) waited (busyOf (statusOf (byteOf v))))
-afterPhase setup (Phase.Pausing task waited) v = look setup (Phase.Looking task waited)
+afterPhase setup (Phase.Sending task) v = sentThen setup task
+afterPhase setup (Phase.Looking task waited) v = lookedThen setup task waited (statusOf (byteOf v))
+afterPhase setup (Phase.Pausing task waited) v = lookThen setup task waited
 afterPhase setup Phase.ReadingCache v = done setup
 afterPhase setup Phase.Comparing v = comparedThen setup v
-afterPhase setup Phase.ReadingMarker v = markerThen setup (byteOf v)
+afterPhase setup (Phase.ReadingMarker why) v = markerThen setup why (byteOf v)
+afterPhase setup (Phase.Reading offset n before) v = pieceReadThen setup offset n before
 afterPhase setup Phase.LoadingData v = done setup
 afterPhase setup (Phase.LoadingPage page) v = programThen setup page (ProgramFor.WritePage page)
+afterPhase setup (Phase.LoadingFiller block column) v = filledThen setup block column
+afterPhase setup (Phase.LoadingMarker block) v = markThen setup block
 
+-- a bus error ends the call: `map_err(FlashError::Spi)?`
 unfoldable pub nextOf : Setup → Phase → Outcome → Then
 nextOf setup phase (Outcome.Value v) = afterPhase setup phase v
 nextOf setup phase (Outcome.Failed code) = Then.Fail (FlashError.Spi code)

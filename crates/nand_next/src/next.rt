@@ -1,31 +1,34 @@
 // What follows each transfer.
-use crate::go;
-use crate::page;
-use crate::register;
-use crate::then::Then;
+use crate::wait;
 use frames::frame::Outcome;
 use nand_answers::answer::Answer;
 use nand_phases::phase::Asked;
 use nand_phases::phase::EnableFor;
+use nand_phases::phase::EraseFor;
 use nand_phases::phase::Phase;
 use nand_phases::phase::ProgramFor;
+use nand_phases::phase::RegisterFor;
 use nand_phases::phase::ResetFor;
 use nand_phases::phase::Task;
 use nand_phases::phase::Within;
 use nand_phases::setup::Setup;
-use nand_phases::transfer;
-use qspi::transfer::Transfer;
+use nand_steps::block;
+use nand_steps::cache;
+use nand_steps::go;
+use nand_steps::page;
+use nand_steps::read;
+use nand_steps::register;
+use nand_steps::then::Then;
+use qspi::transfer::Payload;
 use spi_flash::error::FlashError;
-use spi_flash::wait;
-use spi_flash::wait::Wait;
 use spi_nand::command;
 use spi_nand::config::NandJedecId;
-use spi_nand::opcode;
 use spi_nand::status::Configuration;
 use spi_nand::status::Protection;
 use spi_nand::status::Status;
 ghost use mathlib.Core.Path.{_≡_};
-ghost use Rattle.nand_next.specs.Next.{byteOf, identifyThen, enabledThen, latchedThen, resetThen, resumeTask, waitThen, answeredThen, afterPhase, nextOf};
+ghost use Rattle.nand_steps.specs.Go.{look, reset};
+ghost use Rattle.nand_next.specs.Next.{byteOf, writeThen, loadPageThen, startErase, enabledThen, latchedThen, identifyThen, answeredThen, afterPhase, nextOf};
 
 fn byte(v: u64) -> u8
     ensures { λ r. ⌜ r ≡ byteOf v ⌝ }
@@ -35,88 +38,70 @@ fn byte(v: u64) -> u8
 
 // ---- write_enable, and what it is for
 
+// write_register's command.
+fn write(setup: Setup, register: u8, value: u8, why: RegisterFor) -> Then
+    ensures { λ r. ⌜ r ≡ writeThen setup register value why ⌝ }
+{
+    go::send(
+        setup,
+        command::set_feature_command(register, value),
+        Task::Register(why),
+    )
+}
+
+// write_page's load.
+fn load_page(setup: Setup, page: usize) -> Then
+    ensures { λ r. ⌜ r ≡ loadPageThen setup page ⌝ }
+{
+    let geometry = setup.geometry;
+    let data = Payload::Data {
+        from: 0,
+        len: geometry.page_size,
+    };
+    cache::load_program_data(setup, 0, data, Phase::LoadingPage(page))
+}
+
+// erase_block's command.
+fn start_erase(setup: Setup, block: usize, why: EraseFor) -> Then
+    ensures { λ r. ⌜ r ≡ startErase setup block why ⌝ }
+{
+    let geometry = setup.geometry;
+    go::send(
+        setup,
+        command::block_erase_command(geometry.first_page(block)),
+        Task::Erase(why),
+    )
+}
+
 fn enabled(setup: Setup, why: EnableFor) -> Then
     ensures { λ r. ⌜ r ≡ enabledThen setup why ⌝ }
 {
-    let geometry = setup.geometry;
     match why {
-        EnableFor::Call => go::done(setup),
+        EnableFor::Call => return go::done(setup),
         EnableFor::Register {
             register,
             value,
             why,
-        } => go::send(
-            setup,
-            command::set_feature_command(register, value),
-            Task::Register(why),
-        ),
-        EnableFor::WritePage(page) => {
-            page::load_data(setup, 0, geometry.page_size, Phase::LoadingPage(page))
-        }
-        EnableFor::Erase(block) => go::send(
-            setup,
-            command::block_erase_command(geometry.first_page(block)),
-            Task::Erase,
-        ),
+        } => return write(setup, register, value, why),
+        EnableFor::WritePage(page) => return load_page(setup, page),
+        EnableFor::Erase { block, why } => return start_erase(setup, block, why),
+        EnableFor::MarkBad(block) => return block::fill(setup, block, 0),
     }
+}
+
+fn latch(setup: Setup, why: EnableFor) -> Then
+    ensures { λ r. ⌜ r ≡ look setup (Phase.Latching why) ⌝ }
+{
+    go::look(setup, Phase::Latching(why))
 }
 
 fn latched(setup: Setup, why: EnableFor, status: Status) -> Then
     ensures { λ r. ⌜ r ≡ latchedThen setup why status ⌝ }
 {
     if status.write_enabled() {
-        enabled(setup, why)
-    } else {
-        Then::Fail(FlashError::WriteEnableFailed)
+        return enabled(setup, why);
     }
-}
-
-// ---- wait_ready, and what it is for
-
-fn reset_done(setup: Setup, why: ResetFor) -> Then
-    ensures { λ r. ⌜ r ≡ resetThen setup why ⌝ }
-{
-    match why {
-        ResetFor::Reset => go::done(setup),
-        ResetFor::Identify(within) => go::ask_id(setup, within),
-    }
-}
-
-// The wait of a task is over.
-fn resume(setup: Setup, task: Task) -> Then
-    ensures { λ r. ⌜ r ≡ resumeTask setup task ⌝ }
-{
-    match task {
-        Task::Reset(why) => reset_done(setup, why),
-        Task::Register(why) => register::written(setup, why),
-        Task::Load(why) => page::loaded(setup, why),
-        Task::Program(why) => go::ask(setup, opcode::REG_STATUS, Asked::Programmed(why)),
-        Task::Erase => go::ask(setup, opcode::REG_STATUS, Asked::Erased),
-    }
-}
-
-fn waited_then(setup: Setup, task: Task, step: Wait) -> Then
-    ensures { λ r. ⌜ r ≡ waitThen setup task step ⌝ }
-{
-    match step {
-        Wait::Look => go::look(
-            setup,
-            Phase::Looking {
-                task: task,
-                waited: 0,
-            },
-        ),
-        Wait::Pause { us, waited } => go::go(
-            setup,
-            Transfer::Pause(us),
-            Phase::Pausing {
-                task: task,
-                waited: waited,
-            },
-        ),
-        Wait::Ready => resume(setup, task),
-        Wait::Timeout => Then::Fail(FlashError::Timeout),
-    }
+    Then::Fail(FlashError::WriteEnableFailed)
 }
 
 // ---- what was asked
@@ -125,8 +110,8 @@ fn identify(setup: Setup, id: NandJedecId, within: Within) -> Then
     ensures { λ r. ⌜ r ≡ identifyThen setup id within ⌝ }
 {
     match within {
-        Within::Call => go::end(setup, Answer::Id(id)),
-        Within::BringUp => register::identified(setup, id),
+        Within::Call => return go::end(setup, Answer::Id(id)),
+        Within::BringUp => return register::identified(setup, id),
     }
 }
 
@@ -136,68 +121,72 @@ fn answered(setup: Setup, asked: Asked, v: u64) -> Then
 {
     let b = byte(v);
     match asked {
-        Asked::Status => go::end(setup, Answer::Status(Status::from_byte(b))),
+        Asked::Status => return go::end(setup, Answer::Status(Status::from_byte(b))),
         Asked::Configuration => {
-            go::end(setup, Answer::Configuration(Configuration::from_byte(b)))
+            return go::end(setup, Answer::Configuration(Configuration::from_byte(b)));
         }
-        Asked::Protection => go::end(setup, Answer::Protection(Protection::from_byte(b))),
-        Asked::Id(within) => identify(setup, register::id_of(v), within),
+        Asked::Protection => {
+            return go::end(setup, Answer::Protection(Protection::from_byte(b)));
+        }
+        Asked::Id(within) => return identify(setup, register::id_of(v), within),
         Asked::Configure(within) => {
-            register::configure(setup, Configuration::from_byte(b), within)
+            return register::configure(setup, Configuration::from_byte(b), within);
         }
         Asked::Configured { before, within } => {
-            register::check_configuration(setup, before, within, Configuration::from_byte(b))
+            return register::check_configuration(
+                setup,
+                before,
+                within,
+                Configuration::from_byte(b),
+            );
         }
-        Asked::Unprotect(within) => { register::unprotect(setup, Protection::from_byte(b), within) }
-        Asked::BroughtUp => register::brought_up(setup, Configuration::from_byte(b)),
-        Asked::DisableQuad => register::disable_quad(setup, Configuration::from_byte(b)),
-        Asked::QuadDisabled => register::quad_disabled(setup, Configuration::from_byte(b)),
-        Asked::Verdict(why) => page::judged(setup, why, Status::from_byte(b)),
-        Asked::Programmed(why) => page::programmed(setup, why, Status::from_byte(b)),
-        Asked::Erased => page::erased(setup, Status::from_byte(b)),
+        Asked::Unprotect(within) => {
+            return register::unprotect(setup, Protection::from_byte(b), within);
+        }
+        Asked::BroughtUp => return register::brought_up(setup, Configuration::from_byte(b)),
+        Asked::DisableQuad => return register::disable_quad(setup, Configuration::from_byte(b)),
+        Asked::QuadDisabled => return register::quad_disabled(setup, Configuration::from_byte(b)),
+        Asked::Verdict(why) => return page::judged(setup, why, Status::from_byte(b)),
+        Asked::Programmed(why) => return page::programmed(setup, why, Status::from_byte(b)),
+        Asked::Erased(why) => return block::erased(setup, why, Status::from_byte(b)),
     }
 }
 
 // ---- what follows a transfer that gave v
 
+// with_config's select high.
+fn raised(setup: Setup) -> Then
+    ensures { λ r. ⌜ r ≡ reset setup (ResetFor.Identify Within.BringUp) ⌝ }
+{
+    go::reset(setup, ResetFor::Identify(Within::BringUp))
+}
+
 fn after(setup: Setup, phase: Phase, v: u64) -> Then
     ensures { λ r. ⌜ r ≡ afterPhase setup phase v ⌝ }
 {
+    let b = byte(v);
     match phase {
-        Phase::Raised => go::send(
-            setup,
-            command::reset_command(),
-            Task::Reset(ResetFor::Identify(Within::BringUp)),
-        ),
-        Phase::Asking(asked) => answered(setup, asked, v),
-        Phase::Enabling(why) => go::look(setup, Phase::Latching(why)),
-        Phase::Latching(why) => latched(setup, why, Status::from_byte(byte(v))),
-        Phase::Sending(task) => waited_then(
-            setup,
-            task,
-            wait::begin(opcode::timings(transfer::task_operation(task))),
-        ),
-        Phase::Looking { task, waited } => waited_then(
-            setup,
-            task,
-            wait::after_look(
-                opcode::timings(transfer::task_operation(task)),
-                waited,
-                Status::from_byte(byte(v)).busy(),
-            ),
-        ),
-        Phase::Pausing { task, waited } => go::look(
-            setup,
-            Phase::Looking {
-                task: task,
-                waited: waited,
-            },
-        ),
-        Phase::ReadingCache => go::done(setup),
-        Phase::Comparing => page::compared(setup, v),
-        Phase::ReadingMarker => page::marker(setup, byte(v)),
-        Phase::LoadingData => go::done(setup),
-        Phase::LoadingPage(page) => page::program(setup, page, ProgramFor::WritePage(page)),
+        Phase::Raised => return raised(setup),
+        Phase::Asking(asked) => return answered(setup, asked, v),
+        Phase::Enabling(why) => return latch(setup, why),
+        Phase::Latching(why) => return latched(setup, why, Status::from_byte(b)),
+        Phase::Sending(task) => return wait::sent(setup, task),
+        Phase::Looking { task, waited } => {
+            return wait::looked(setup, task, waited, Status::from_byte(b));
+        }
+        Phase::Pausing { task, waited } => return wait::look(setup, task, waited),
+        Phase::ReadingCache => return go::done(setup),
+        Phase::Comparing => return cache::compared(setup, v),
+        Phase::ReadingMarker(why) => return block::marker(setup, why, b),
+        Phase::Reading { offset, len, done } => {
+            return read::piece_read(setup, offset, len, done);
+        }
+        Phase::LoadingData => return go::done(setup),
+        Phase::LoadingPage(page) => {
+            return page::program(setup, page, ProgramFor::WritePage(page));
+        }
+        Phase::LoadingFiller { block, column } => return block::filled(setup, block, column),
+        Phase::LoadingMarker(block) => return block::mark(setup, block),
     }
 }
 
@@ -206,7 +195,7 @@ pub fn next(setup: Setup, phase: Phase, outcome: Outcome) -> Then
     ensures { λ r. ⌜ r ≡ nextOf setup phase outcome ⌝ }
 {
     match outcome {
-        Outcome::Value(v) => after(setup, phase, v),
-        Outcome::Failed(code) => Then::Fail(FlashError::Spi(code)),
+        Outcome::Value(v) => return after(setup, phase, v),
+        Outcome::Failed(code) => return Then::Fail(FlashError::Spi(code)),
     }
 }

@@ -29,6 +29,14 @@ pub enum RegisterFor {
     },
 }
 
+// What is_bad_block is for.
+pub enum MarkerFor {
+    Call,
+    // mark_bad_block: its first look at this block, and its last.
+    Check(usize),
+    Confirm,
+}
+
 // What a page is loaded for.
 pub enum LoadFor {
     PageRead,
@@ -36,13 +44,26 @@ pub enum LoadFor {
     // write_page's read-back.
     Verify,
     // is_bad_block, which asks for no verdict.
-    Marker,
+    Marker(MarkerFor),
+    // read: the page of the next piece.
+    Read {
+        offset: usize,
+        len: usize,
+        done: usize,
+    },
 }
 
-// What program_execute is for.
+// What program_execute is for: a page, or the block that is marked.
 pub enum ProgramFor {
     Call,
     WritePage(usize),
+    MarkBad(usize),
+}
+
+// What erase_block is for.
+pub enum EraseFor {
+    Call,
+    MarkBad(usize),
 }
 
 // What the write-enable latch is set for.
@@ -54,7 +75,11 @@ pub enum EnableFor {
         why: RegisterFor,
     },
     WritePage(usize),
-    Erase(usize),
+    Erase {
+        block: usize,
+        why: EraseFor,
+    },
+    MarkBad(usize),
 }
 
 // A command with a wait behind it.
@@ -63,7 +88,7 @@ pub enum Task {
     Register(RegisterFor),
     Load(LoadFor),
     Program(ProgramFor),
-    Erase,
+    Erase(EraseFor),
 }
 
 // What a register or the id is read for.
@@ -89,7 +114,7 @@ pub enum Asked {
     // how a load, a program or an erase went
     Verdict(LoadFor),
     Programmed(ProgramFor),
-    Erased,
+    Erased(EraseFor),
 }
 
 pub enum Phase {
@@ -101,13 +126,29 @@ pub enum Phase {
     Latching(EnableFor),
     // a command, and wait_ready
     Sending(Task),
-    Looking { task: Task, waited: u32 },
-    Pausing { task: Task, waited: u32 },
-    // read_cache: into the caller's buffer, for write_page's comparison, for is_bad_block
+    Looking {
+        task: Task,
+        waited: u32,
+    },
+    Pausing {
+        task: Task,
+        waited: u32,
+    },
+    // read_cache: into the caller's buffer, for write_page's comparison, for is_bad_block, for a piece of read
     ReadingCache,
     Comparing,
-    ReadingMarker,
-    // load_program_data, and that of write_page
+    ReadingMarker(MarkerFor),
+    Reading {
+        offset: usize,
+        len: usize,
+        done: usize,
+    },
+    // load_program_data: of the caller's data, of write_page, and of mark_bad_block's filler and marker
     LoadingData,
     LoadingPage(usize),
+    LoadingFiller {
+        block: usize,
+        column: usize,
+    },
+    LoadingMarker(usize),
 }

@@ -9,7 +9,8 @@ use spi_nand::config::QuadSetting;
 use spi_nand::config::SpiNandConfig;
 use spi_nand::opcode::Operation;
 ghost use mathlib.Core.Path.{_≡_};
-ghost use Rattle.nand_phases.specs.Transfer.{registerTransfer, idTransfer, cacheReadTransfer, cacheLoadTransfer, taskOperation, inCache};
+ghost use Prim.Native.Nat.{_+_, _-_};
+ghost use Rattle.nand_phases.specs.Transfer.{registerTransfer, idTransfer, cacheReadTransfer, cacheLoadTransfer, taskOperation, inCache, inRange, placeOf, pageAt, columnAt, chunkOf, fillerOf};
 
 // read_register
 pub fn register_transfer(register: u8) -> Transfer
@@ -80,7 +81,7 @@ pub fn task_operation(task: Task) -> Operation
         Task::Register(_) => Operation::WriteRegister,
         Task::Load(_) => Operation::PageRead,
         Task::Program(_) => Operation::Program,
-        Task::Erase => Operation::Erase,
+        Task::Erase(_) => Operation::Erase,
     }
 }
 
@@ -94,4 +95,105 @@ pub fn in_cache(geometry: NandGeometry, column: usize, length: usize) -> bool
     } else {
         false
     }
+}
+
+// check_range
+pub fn in_range(geometry: NandGeometry, offset: usize, length: usize) -> bool
+    ensures { λ r. ⌜ r ≡ inRange geometry offset length ⌝ }
+{
+    let capacity = geometry.capacity();
+    if offset <= capacity {
+        length <= capacity - offset
+    } else {
+        false
+    }
+}
+
+// ---- the pieces of read
+
+// `offset + done`
+pub fn place(offset: usize, done: usize) -> usize
+    ensures { λ r. ⌜ r ≡ placeOf offset done ⌝ }
+{
+    std::num::wrapping_add_usize(offset, done)
+}
+
+// The page of a byte; no construction takes a page of 0 bytes.
+pub fn page_at(geometry: NandGeometry, address: usize) -> usize
+    ensures { λ r. ⌜ r ≡ pageAt geometry address ⌝ }
+{
+    let page_size = geometry.page_size;
+    if page_size == 0 {
+        0
+    } else {
+        address / page_size
+    }
+}
+
+pub fn column_at(geometry: NandGeometry, address: usize) -> usize
+    ensures { λ r. ⌜ r ≡ columnAt geometry address ⌝ }
+{
+    let page_size = geometry.page_size;
+    if page_size == 0 {
+        address
+    } else {
+        address % page_size
+    }
+}
+
+// The bytes of a page from a column on.
+fn page_rest(geometry: NandGeometry, column: usize) -> usize
+    ensures { λ r. ⌜ r ≡ geometry .«page_size» - column ⌝ }
+{
+    let page_size = geometry.page_size;
+    if column <= page_size {
+        page_size - column
+    } else {
+        0
+    }
+}
+
+// The bytes of the next piece: what is left of its page, or of the buffer.
+pub fn chunk(geometry: NandGeometry, offset: usize, len: usize, done: usize) -> usize
+    ensures { λ r. ⌜ r ≡ chunkOf geometry offset len done ⌝ }
+{
+    let rest = page_rest(geometry, column_at(geometry, place(offset, done)));
+    if done < len {
+        if len - done <= rest { len - done } else { rest }
+    } else {
+        0
+    }
+}
+
+// What is done after that piece.
+pub fn past_chunk(geometry: NandGeometry, offset: usize, len: usize, done: usize) -> usize
+    ensures { λ r. ⌜ r ≡ done + chunkOf geometry offset len done ⌝ }
+{
+    let n = chunk(geometry, offset, len, done);
+    done + n
+}
+
+// ---- mark_bad_block's filler
+
+// The bytes of FF_CHUNK.
+pub const FILLER_CHUNK: usize = 256;
+
+// The bytes of the next load of filler.
+pub fn filler(geometry: NandGeometry, column: usize) -> usize
+    ensures { λ r. ⌜ r ≡ fillerOf geometry column ⌝ }
+{
+    let rest = page_rest(geometry, column);
+    if rest <= FILLER_CHUNK {
+        rest
+    } else {
+        FILLER_CHUNK
+    }
+}
+
+// The column after that load.
+pub fn past_filler(geometry: NandGeometry, column: usize) -> usize
+    ensures { λ r. ⌜ r ≡ column + fillerOf geometry column ⌝ }
+{
+    let n = filler(geometry, column);
+    column + n
 }

@@ -1,5 +1,8 @@
 use Rattle.qspi.proofs.Tests.{tests}
-use Rattle.nand_driver.specs.Call.{constructedOf}
+use mathlib.Core.Bool.{true}
+use mathlib.Core.Path.{_≡_}
+use Rattle.spi_nand.specs.Config.{inBounds}
+use Rattle.nand_driver.specs.Call.{givenGeometry, constructedOf}
 use borrow.Author.Needs.{needs}
 use Rattle.nand_driver.proofs.call.construct.Statement.{statement}
 use Rattle.nand_driver.proofs.call.construct.Tie as tie
@@ -33,7 +36,10 @@ settle-requires c κs = search needs
 returns-2 : tie.Need-returns-2
 unfolding constructedOf
 returns-2 c =
-    let h0 = c .before .before .before .before .before .before .before .if1 .left in simp (c .before .before .before .before .if2 .taken, ← c .settle .ensures, ← c .before .go .ensures, ← c .before .before .flash-of .ensures, ← c .before .before .before .fresh .ensures, ← c .before .before .before .before .before .in-bounds .ensures, ← c .before .before .before .before .before .before .given-geometry .ensures, tests)
+    let h0 = c .before .before .before .before .before .before .before .if1 .left in
+    let config = c .before .before .before .before .before .before .before .before .args .config in
+    let inside : inBounds (givenGeometry config) ≡ true = simp (← c .before .before .before .before .before .before .given-geometry .ensures, ← c .before .before .before .before .before .in-bounds .ensures) (c .before .before .before .before .if2 .taken) in
+    simp (inside, ← c .settle .ensures, ← c .before .go .ensures, ← c .before .before .flash-of .ensures, ← c .before .before .before .fresh .ensures, tests)
 
 refused-requires-2 : tie.Need-refused-requires-2
 refused-requires-2 c κs = search needs

@@ -9,11 +9,19 @@ enum-known-opening c = search needs
 construct-requires : tie.Need-construct-requires
 construct-requires c κs = search needs
 
+returns : tie.Need-returns
+unfolding idleOf
+returns c = simp (c .before .before .opening .given .1, ← c .construct .ensures)
+
 enum-known-opening-2 : tie.Need-enum-known-opening-2
 enum-known-opening-2 c = search needs
 
 told-requires : tie.Need-told-requires
 told-requires c κs = search needs
+
+returns-2 : tie.Need-returns-2
+unfolding idleOf
+returns-2 c = simp (c .before .before .opening2 .given .1, ← c .told .ensures)
 
 enum-told : tie.Need-enum-told
 enum-told c = search needs
@@ -21,23 +29,15 @@ enum-told c = search needs
 freed-requires : tie.Need-freed-requires
 freed-requires c κs = search needs
 
+returns-3 : tie.Need-returns-3
+unfolding idleOf
+returns-3 c = simp (c .before .enum-told .given .1, ← c .freed .ensures)
+
 enum-known-opening-3 : tie.Need-enum-known-opening-3
 enum-known-opening-3 c = search needs
 
 begun-requires : tie.Need-begun-requires
 begun-requires c κs = search needs
-
-returns : tie.Need-returns
-unfolding idleOf
-returns c = simp (c .before .before .opening .given .1, ← c .construct .ensures)
-
-returns-2 : tie.Need-returns-2
-unfolding idleOf
-returns-2 c = simp (c .before .before .opening2 .given .1, ← c .told .ensures)
-
-returns-3 : tie.Need-returns-3
-unfolding idleOf
-returns-3 c = simp (c .before .enum-told .given .1, ← c .freed .ensures)
 
 returns-4 : tie.Need-returns-4
 unfolding idleOf
@@ -49,13 +49,13 @@ idle-spec =
     (tie.spec
     enum-known-opening
     construct-requires
+    returns
     enum-known-opening-2
     told-requires
+    returns-2
     enum-told
     freed-requires
+    returns-3
     enum-known-opening-3
     begun-requires
-    returns
-    returns-2
-    returns-3
     returns-4)

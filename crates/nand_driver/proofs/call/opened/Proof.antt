@@ -11,8 +11,8 @@ use Rattle.nand_driver.specs.Step.{settledOf}
 use Rattle.nand_driver.specs.declared.state.SpiNandFlash.{SpiNandFlash}
 use Rattle.nand_driver.specs.declared.state.Stepped.{Stepped}
 use Rattle.spi_flash.specs.declared.loan.Takes.{Takes}
-use Rattle.nand_next.specs.declared.then.Then.{Then}
-use Rattle.nand_next.proofs.then.Then as T
+use Rattle.nand_steps.specs.declared.then.Then.{Then}
+use Rattle.nand_steps.proofs.then.Then as T
 
 enum-known-then : tie.Need-enum-known-then
 enum-known-then c = search needs
@@ -43,4 +43,4 @@ returns-2 c =
 
 pub opened-spec : {M : Type 1} → statement M
 opened-spec =
-    tie.close (tie.spec enum-known-then refused-requires flash-of-requires settle-requires returns returns-2)
+    tie.close (tie.spec enum-known-then refused-requires returns flash-of-requires settle-requires returns-2)

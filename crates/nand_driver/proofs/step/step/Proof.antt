@@ -35,9 +35,9 @@ step-spec =
     (tie.spec
     enum-told
     refused-requires
+    returns
     enum-known-running
     proceed-requires
-    returns
     same-length
     same-length-2
     returns-2)

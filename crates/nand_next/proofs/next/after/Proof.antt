@@ -3,14 +3,18 @@ use borrow.Author.Needs.{needs}
 use Rattle.nand_next.proofs.next.after.Statement.{statement}
 use Rattle.nand_next.proofs.next.after.Tie as tie
 
+byte-requires : tie.Need-byte-requires
+byte-requires c κs = search needs
+
 enum-told : tie.Need-enum-told
 enum-told c = search needs
 
-reset-command-requires : tie.Need-reset-command-requires
-reset-command-requires c κs = search needs
+raised-requires : tie.Need-raised-requires
+raised-requires c κs = search needs
 
-send-requires : tie.Need-send-requires
-send-requires c κs = search needs
+returns : tie.Need-returns
+unfolding afterPhase
+returns c = simp (c .before .enum-told .given .1, ← c .raised .ensures, ← c .before .before .before .byte .ensures)
 
 enum-known-phase : tie.Need-enum-known-phase
 enum-known-phase c = search needs
@@ -18,17 +22,22 @@ enum-known-phase c = search needs
 answered-requires : tie.Need-answered-requires
 answered-requires c κs = search needs
 
+returns-2 : tie.Need-returns-2
+unfolding afterPhase
+returns-2 c = simp (c .before .before .phase .given .1, ← c .answered .ensures, ← c .before .before .before .before .byte .ensures)
+
 enum-known-phase-2 : tie.Need-enum-known-phase-2
 enum-known-phase-2 c = search needs
 
-look-requires : tie.Need-look-requires
-look-requires c κs = search needs
+latch-requires : tie.Need-latch-requires
+latch-requires c κs = search needs
+
+returns-3 : tie.Need-returns-3
+unfolding afterPhase
+returns-3 c = simp (c .before .before .phase2 .given .1, ← c .latch .ensures, ← c .before .before .before .before .byte .ensures)
 
 enum-known-phase-3 : tie.Need-enum-known-phase-3
 enum-known-phase-3 c = search needs
-
-byte-requires : tie.Need-byte-requires
-byte-requires c κs = search needs
 
 from-byte-requires : tie.Need-from-byte-requires
 from-byte-requires c κs = search needs
@@ -36,50 +45,42 @@ from-byte-requires c κs = search needs
 latched-requires : tie.Need-latched-requires
 latched-requires c κs = search needs
 
+returns-4 : tie.Need-returns-4
+unfolding afterPhase
+returns-4 c = simp (c .before .before .before .phase3 .given .1, ← c .latched .ensures, ← c .before .from-byte .ensures, ← c .before .before .before .before .before .byte .ensures)
+
 enum-known-phase-4 : tie.Need-enum-known-phase-4
 enum-known-phase-4 c = search needs
 
-task-operation-requires : tie.Need-task-operation-requires
-task-operation-requires c κs = search needs
+sent-requires : tie.Need-sent-requires
+sent-requires c κs = search needs
 
-timings-requires : tie.Need-timings-requires
-timings-requires c κs = search needs
-
-begin-requires : tie.Need-begin-requires
-begin-requires c κs = search needs
-
-waited-then-requires : tie.Need-waited-then-requires
-waited-then-requires c κs = search needs
+returns-5 : tie.Need-returns-5
+unfolding afterPhase
+returns-5 c = simp (c .before .before .phase4 .given .1, ← c .sent .ensures, ← c .before .before .before .before .byte .ensures)
 
 enum-known-phase-5 : tie.Need-enum-known-phase-5
 enum-known-phase-5 c = search needs
 
-task-operation-requires-2 : tie.Need-task-operation-requires-2
-task-operation-requires-2 c κs = search needs
-
-timings-requires-2 : tie.Need-timings-requires-2
-timings-requires-2 c κs = search needs
-
-byte-requires-2 : tie.Need-byte-requires-2
-byte-requires-2 c κs = search needs
-
 from-byte-requires-2 : tie.Need-from-byte-requires-2
 from-byte-requires-2 c κs = search needs
 
-busy-requires : tie.Need-busy-requires
-busy-requires c κs = search needs
+looked-requires : tie.Need-looked-requires
+looked-requires c κs = search needs
 
-after-look-requires : tie.Need-after-look-requires
-after-look-requires c κs = search needs
-
-waited-then-requires-2 : tie.Need-waited-then-requires-2
-waited-then-requires-2 c κs = search needs
+returns-6 : tie.Need-returns-6
+unfolding afterPhase
+returns-6 c = simp (c .before .before .before .phase5 .given .1, ← c .looked .ensures, ← c .before .from-byte2 .ensures, ← c .before .before .before .before .before .byte .ensures)
 
 enum-known-phase-6 : tie.Need-enum-known-phase-6
 enum-known-phase-6 c = search needs
 
-look-requires-2 : tie.Need-look-requires-2
-look-requires-2 c κs = search needs
+look-requires : tie.Need-look-requires
+look-requires c κs = search needs
+
+returns-7 : tie.Need-returns-7
+unfolding afterPhase
+returns-7 c = simp (c .before .before .phase6 .given .1, ← c .look .ensures, ← c .before .before .before .before .byte .ensures)
 
 enum-told-2 : tie.Need-enum-told-2
 enum-told-2 c = search needs
@@ -87,131 +88,129 @@ enum-told-2 c = search needs
 done-requires : tie.Need-done-requires
 done-requires c κs = search needs
 
+returns-8 : tie.Need-returns-8
+unfolding afterPhase
+returns-8 c = simp (c .before .enum-told2 .given .1, ← c .done .ensures, ← c .before .before .before .byte .ensures)
+
 enum-told-3 : tie.Need-enum-told-3
 enum-told-3 c = search needs
 
 compared-requires : tie.Need-compared-requires
 compared-requires c κs = search needs
 
-enum-told-4 : tie.Need-enum-told-4
-enum-told-4 c = search needs
-
-byte-requires-3 : tie.Need-byte-requires-3
-byte-requires-3 c κs = search needs
-
-marker-requires : tie.Need-marker-requires
-marker-requires c κs = search needs
-
-enum-told-5 : tie.Need-enum-told-5
-enum-told-5 c = search needs
-
-done-requires-2 : tie.Need-done-requires-2
-done-requires-2 c κs = search needs
+returns-9 : tie.Need-returns-9
+unfolding afterPhase
+returns-9 c = simp (c .before .enum-told3 .given .1, ← c .compared .ensures, ← c .before .before .before .byte .ensures)
 
 enum-known-phase-7 : tie.Need-enum-known-phase-7
 enum-known-phase-7 c = search needs
 
-program-requires : tie.Need-program-requires
-program-requires c κs = search needs
-
-returns : tie.Need-returns
-unfolding afterPhase
-returns c = simp (c .before .before .enum-told .given .1, ← c .send .ensures, ← c .before .reset-command .ensures)
-
-returns-2 : tie.Need-returns-2
-unfolding afterPhase
-returns-2 c = simp (c .before .before .phase .given .1, ← c .answered .ensures)
-
-returns-3 : tie.Need-returns-3
-unfolding afterPhase
-returns-3 c = simp (c .before .before .phase2 .given .1, ← c .look .ensures)
-
-returns-4 : tie.Need-returns-4
-unfolding afterPhase
-returns-4 c = simp (c .before .before .before .before .phase3 .given .1, ← c .latched .ensures, ← c .before .from-byte .ensures, ← c .before .before .byte .ensures)
-
-returns-5 : tie.Need-returns-5
-unfolding afterPhase
-returns-5 c = simp (c .before .before .before .before .before .phase4 .given .1, ← c .waited-then .ensures, ← c .before .begin .ensures, ← c .before .before .timings .ensures, ← c .before .before .before .task-operation .ensures)
-
-returns-6 : tie.Need-returns-6
-unfolding afterPhase
-returns-6 c = simp (c .before .before .before .before .before .before .before .before .phase5 .given .1, ← c .waited-then2 .ensures, ← c .before .after-look .ensures, ← c .before .before .busy .ensures, ← c .before .before .before .from-byte2 .ensures, ← c .before .before .before .before .byte2 .ensures, ← c .before .before .before .before .before .timings2 .ensures, ← c .before .before .before .before .before .before .task-operation2 .ensures)
-
-returns-7 : tie.Need-returns-7
-unfolding afterPhase
-returns-7 c = simp (c .before .before .phase6 .given .1, ← c .look2 .ensures)
-
-returns-8 : tie.Need-returns-8
-unfolding afterPhase
-returns-8 c = simp (c .before .enum-told2 .given .1, ← c .done .ensures)
-
-returns-9 : tie.Need-returns-9
-unfolding afterPhase
-returns-9 c = simp (c .before .enum-told3 .given .1, ← c .compared .ensures)
+marker-requires : tie.Need-marker-requires
+marker-requires c κs = search needs
 
 returns-10 : tie.Need-returns-10
 unfolding afterPhase
-returns-10 c = simp (c .before .before .enum-told4 .given .1, ← c .marker .ensures, ← c .before .byte3 .ensures)
+returns-10 c = simp (c .before .before .phase7 .given .1, ← c .marker .ensures, ← c .before .before .before .before .byte .ensures)
+
+enum-known-phase-8 : tie.Need-enum-known-phase-8
+enum-known-phase-8 c = search needs
+
+piece-read-requires : tie.Need-piece-read-requires
+piece-read-requires c κs = search needs
 
 returns-11 : tie.Need-returns-11
 unfolding afterPhase
-returns-11 c = simp (c .before .enum-told5 .given .1, ← c .done2 .ensures)
+returns-11 c = simp (c .before .before .phase8 .given .1, ← c .piece-read .ensures, ← c .before .before .before .before .byte .ensures)
+
+enum-told-4 : tie.Need-enum-told-4
+enum-told-4 c = search needs
+
+done-requires-2 : tie.Need-done-requires-2
+done-requires-2 c κs = search needs
 
 returns-12 : tie.Need-returns-12
 unfolding afterPhase
-returns-12 c = simp (c .before .before .phase7 .given .1, ← c .program .ensures)
+returns-12 c = simp (c .before .enum-told4 .given .1, ← c .done2 .ensures, ← c .before .before .before .byte .ensures)
+
+enum-known-phase-9 : tie.Need-enum-known-phase-9
+enum-known-phase-9 c = search needs
+
+program-requires : tie.Need-program-requires
+program-requires c κs = search needs
+
+returns-13 : tie.Need-returns-13
+unfolding afterPhase
+returns-13 c = simp (c .before .before .phase9 .given .1, ← c .program .ensures, ← c .before .before .before .before .byte .ensures)
+
+enum-known-phase-10 : tie.Need-enum-known-phase-10
+enum-known-phase-10 c = search needs
+
+filled-requires : tie.Need-filled-requires
+filled-requires c κs = search needs
+
+returns-14 : tie.Need-returns-14
+unfolding afterPhase
+returns-14 c = simp (c .before .before .phase10 .given .1, ← c .filled .ensures, ← c .before .before .before .before .byte .ensures)
+
+enum-known-phase-11 : tie.Need-enum-known-phase-11
+enum-known-phase-11 c = search needs
+
+mark-requires : tie.Need-mark-requires
+mark-requires c κs = search needs
+
+returns-15 : tie.Need-returns-15
+unfolding afterPhase
+returns-15 c = simp (c .before .before .phase11 .given .1, ← c .mark .ensures, ← c .before .before .before .before .byte .ensures)
 
 pub after-spec : {M : Type 1} → statement M
 after-spec =
     tie.close
     (tie.spec
+    byte-requires
     enum-told
-    reset-command-requires
-    send-requires
+    raised-requires
+    returns
     enum-known-phase
     answered-requires
+    returns-2
     enum-known-phase-2
-    look-requires
+    latch-requires
+    returns-3
     enum-known-phase-3
-    byte-requires
     from-byte-requires
     latched-requires
+    returns-4
     enum-known-phase-4
-    task-operation-requires
-    timings-requires
-    begin-requires
-    waited-then-requires
+    sent-requires
+    returns-5
     enum-known-phase-5
-    task-operation-requires-2
-    timings-requires-2
-    byte-requires-2
     from-byte-requires-2
-    busy-requires
-    after-look-requires
-    waited-then-requires-2
+    looked-requires
+    returns-6
     enum-known-phase-6
-    look-requires-2
+    look-requires
+    returns-7
     enum-told-2
     done-requires
+    returns-8
     enum-told-3
     compared-requires
-    enum-told-4
-    byte-requires-3
-    marker-requires
-    enum-told-5
-    done-requires-2
-    enum-known-phase-7
-    program-requires
-    returns
-    returns-2
-    returns-3
-    returns-4
-    returns-5
-    returns-6
-    returns-7
-    returns-8
     returns-9
+    enum-known-phase-7
+    marker-requires
     returns-10
+    enum-known-phase-8
+    piece-read-requires
     returns-11
-    returns-12)
+    enum-told-4
+    done-requires-2
+    returns-12
+    enum-known-phase-9
+    program-requires
+    returns-13
+    enum-known-phase-10
+    filled-requires
+    returns-14
+    enum-known-phase-11
+    mark-requires
+    returns-15)

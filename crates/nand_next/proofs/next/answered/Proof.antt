@@ -15,6 +15,10 @@ from-byte-requires c κs = search needs
 end-requires : tie.Need-end-requires
 end-requires c κs = search needs
 
+returns : tie.Need-returns
+unfolding answeredThen
+returns c = simp (c .before .before .enum-told .given .1, ← c .end .ensures, ← c .before .from-byte .ensures, ← c .before .before .before .before .byte .ensures)
+
 enum-told-2 : tie.Need-enum-told-2
 enum-told-2 c = search needs
 
@@ -23,6 +27,10 @@ from-byte-requires-2 c κs = search needs
 
 end-requires-2 : tie.Need-end-requires-2
 end-requires-2 c κs = search needs
+
+returns-2 : tie.Need-returns-2
+unfolding answeredThen
+returns-2 c = simp (c .before .before .enum-told2 .given .1, ← c .end2 .ensures, ← c .before .from-byte2 .ensures, ← c .before .before .before .before .byte .ensures)
 
 enum-told-3 : tie.Need-enum-told-3
 enum-told-3 c = search needs
@@ -33,6 +41,10 @@ from-byte-requires-3 c κs = search needs
 end-requires-3 : tie.Need-end-requires-3
 end-requires-3 c κs = search needs
 
+returns-3 : tie.Need-returns-3
+unfolding answeredThen
+returns-3 c = simp (c .before .before .enum-told3 .given .1, ← c .end3 .ensures, ← c .before .from-byte3 .ensures, ← c .before .before .before .before .byte .ensures)
+
 enum-known-asked : tie.Need-enum-known-asked
 enum-known-asked c = search needs
 
@@ -41,6 +53,10 @@ id-of-requires c κs = search needs
 
 identify-requires : tie.Need-identify-requires
 identify-requires c κs = search needs
+
+returns-4 : tie.Need-returns-4
+unfolding answeredThen
+returns-4 c = simp (c .before .before .before .asked .given .1, ← c .identify .ensures, ← c .before .id-of .ensures, ← c .before .before .before .before .before .byte .ensures)
 
 enum-known-asked-2 : tie.Need-enum-known-asked-2
 enum-known-asked-2 c = search needs
@@ -51,6 +67,10 @@ from-byte-requires-4 c κs = search needs
 configure-requires : tie.Need-configure-requires
 configure-requires c κs = search needs
 
+returns-5 : tie.Need-returns-5
+unfolding answeredThen
+returns-5 c = simp (c .before .before .before .asked2 .given .1, ← c .configure .ensures, ← c .before .from-byte4 .ensures, ← c .before .before .before .before .before .byte .ensures)
+
 enum-known-asked-3 : tie.Need-enum-known-asked-3
 enum-known-asked-3 c = search needs
 
@@ -59,6 +79,10 @@ from-byte-requires-5 c κs = search needs
 
 check-configuration-requires : tie.Need-check-configuration-requires
 check-configuration-requires c κs = search needs
+
+returns-6 : tie.Need-returns-6
+unfolding answeredThen
+returns-6 c = simp (c .before .before .before .asked3 .given .1, ← c .check-configuration .ensures, ← c .before .from-byte5 .ensures, ← c .before .before .before .before .before .byte .ensures)
 
 enum-known-asked-4 : tie.Need-enum-known-asked-4
 enum-known-asked-4 c = search needs
@@ -69,6 +93,10 @@ from-byte-requires-6 c κs = search needs
 unprotect-requires : tie.Need-unprotect-requires
 unprotect-requires c κs = search needs
 
+returns-7 : tie.Need-returns-7
+unfolding answeredThen
+returns-7 c = simp (c .before .before .before .asked4 .given .1, ← c .unprotect .ensures, ← c .before .from-byte6 .ensures, ← c .before .before .before .before .before .byte .ensures)
+
 enum-told-4 : tie.Need-enum-told-4
 enum-told-4 c = search needs
 
@@ -77,6 +105,10 @@ from-byte-requires-7 c κs = search needs
 
 brought-up-requires : tie.Need-brought-up-requires
 brought-up-requires c κs = search needs
+
+returns-8 : tie.Need-returns-8
+unfolding answeredThen
+returns-8 c = simp (c .before .before .enum-told4 .given .1, ← c .brought-up .ensures, ← c .before .from-byte7 .ensures, ← c .before .before .before .before .byte .ensures)
 
 enum-told-5 : tie.Need-enum-told-5
 enum-told-5 c = search needs
@@ -87,6 +119,10 @@ from-byte-requires-8 c κs = search needs
 disable-quad-requires : tie.Need-disable-quad-requires
 disable-quad-requires c κs = search needs
 
+returns-9 : tie.Need-returns-9
+unfolding answeredThen
+returns-9 c = simp (c .before .before .enum-told5 .given .1, ← c .disable-quad .ensures, ← c .before .from-byte8 .ensures, ← c .before .before .before .before .byte .ensures)
+
 enum-told-6 : tie.Need-enum-told-6
 enum-told-6 c = search needs
 
@@ -95,6 +131,10 @@ from-byte-requires-9 c κs = search needs
 
 quad-disabled-requires : tie.Need-quad-disabled-requires
 quad-disabled-requires c κs = search needs
+
+returns-10 : tie.Need-returns-10
+unfolding answeredThen
+returns-10 c = simp (c .before .before .enum-told6 .given .1, ← c .quad-disabled .ensures, ← c .before .from-byte9 .ensures, ← c .before .before .before .before .byte .ensures)
 
 enum-known-asked-5 : tie.Need-enum-known-asked-5
 enum-known-asked-5 c = search needs
@@ -105,6 +145,10 @@ from-byte-requires-10 c κs = search needs
 judged-requires : tie.Need-judged-requires
 judged-requires c κs = search needs
 
+returns-11 : tie.Need-returns-11
+unfolding answeredThen
+returns-11 c = simp (c .before .before .before .asked5 .given .1, ← c .judged .ensures, ← c .before .from-byte10 .ensures, ← c .before .before .before .before .before .byte .ensures)
+
 enum-known-asked-6 : tie.Need-enum-known-asked-6
 enum-known-asked-6 c = search needs
 
@@ -114,8 +158,12 @@ from-byte-requires-11 c κs = search needs
 programmed-requires : tie.Need-programmed-requires
 programmed-requires c κs = search needs
 
-enum-told-7 : tie.Need-enum-told-7
-enum-told-7 c = search needs
+returns-12 : tie.Need-returns-12
+unfolding answeredThen
+returns-12 c = simp (c .before .before .before .asked6 .given .1, ← c .programmed .ensures, ← c .before .from-byte11 .ensures, ← c .before .before .before .before .before .byte .ensures)
+
+enum-known-asked-7 : tie.Need-enum-known-asked-7
+enum-known-asked-7 c = search needs
 
 from-byte-requires-12 : tie.Need-from-byte-requires-12
 from-byte-requires-12 c κs = search needs
@@ -123,57 +171,9 @@ from-byte-requires-12 c κs = search needs
 erased-requires : tie.Need-erased-requires
 erased-requires c κs = search needs
 
-returns : tie.Need-returns
-unfolding answeredThen
-returns c = simp (c .before .before .enum-told .given .1, ← c .end .ensures, ← c .before .from-byte .ensures, ← c .before .before .before .before .byte .ensures)
-
-returns-2 : tie.Need-returns-2
-unfolding answeredThen
-returns-2 c = simp (c .before .before .enum-told2 .given .1, ← c .end2 .ensures, ← c .before .from-byte2 .ensures, ← c .before .before .before .before .byte .ensures)
-
-returns-3 : tie.Need-returns-3
-unfolding answeredThen
-returns-3 c = simp (c .before .before .enum-told3 .given .1, ← c .end3 .ensures, ← c .before .from-byte3 .ensures, ← c .before .before .before .before .byte .ensures)
-
-returns-4 : tie.Need-returns-4
-unfolding answeredThen
-returns-4 c = simp (c .before .before .before .asked .given .1, ← c .identify .ensures, ← c .before .id-of .ensures, ← c .before .before .before .before .before .byte .ensures)
-
-returns-5 : tie.Need-returns-5
-unfolding answeredThen
-returns-5 c = simp (c .before .before .before .asked2 .given .1, ← c .configure .ensures, ← c .before .from-byte4 .ensures, ← c .before .before .before .before .before .byte .ensures)
-
-returns-6 : tie.Need-returns-6
-unfolding answeredThen
-returns-6 c = simp (c .before .before .before .asked3 .given .1, ← c .check-configuration .ensures, ← c .before .from-byte5 .ensures, ← c .before .before .before .before .before .byte .ensures)
-
-returns-7 : tie.Need-returns-7
-unfolding answeredThen
-returns-7 c = simp (c .before .before .before .asked4 .given .1, ← c .unprotect .ensures, ← c .before .from-byte6 .ensures, ← c .before .before .before .before .before .byte .ensures)
-
-returns-8 : tie.Need-returns-8
-unfolding answeredThen
-returns-8 c = simp (c .before .before .enum-told4 .given .1, ← c .brought-up .ensures, ← c .before .from-byte7 .ensures, ← c .before .before .before .before .byte .ensures)
-
-returns-9 : tie.Need-returns-9
-unfolding answeredThen
-returns-9 c = simp (c .before .before .enum-told5 .given .1, ← c .disable-quad .ensures, ← c .before .from-byte8 .ensures, ← c .before .before .before .before .byte .ensures)
-
-returns-10 : tie.Need-returns-10
-unfolding answeredThen
-returns-10 c = simp (c .before .before .enum-told6 .given .1, ← c .quad-disabled .ensures, ← c .before .from-byte9 .ensures, ← c .before .before .before .before .byte .ensures)
-
-returns-11 : tie.Need-returns-11
-unfolding answeredThen
-returns-11 c = simp (c .before .before .before .asked5 .given .1, ← c .judged .ensures, ← c .before .from-byte10 .ensures, ← c .before .before .before .before .before .byte .ensures)
-
-returns-12 : tie.Need-returns-12
-unfolding answeredThen
-returns-12 c = simp (c .before .before .before .asked6 .given .1, ← c .programmed .ensures, ← c .before .from-byte11 .ensures, ← c .before .before .before .before .before .byte .ensures)
-
 returns-13 : tie.Need-returns-13
 unfolding answeredThen
-returns-13 c = simp (c .before .before .enum-told7 .given .1, ← c .erased .ensures, ← c .before .from-byte12 .ensures, ← c .before .before .before .before .byte .ensures)
+returns-13 c = simp (c .before .before .before .asked7 .given .1, ← c .erased .ensures, ← c .before .from-byte12 .ensures, ← c .before .before .before .before .before .byte .ensures)
 
 pub answered-spec : {M : Type 1} → statement M
 answered-spec =
@@ -183,52 +183,52 @@ answered-spec =
     enum-told
     from-byte-requires
     end-requires
+    returns
     enum-told-2
     from-byte-requires-2
     end-requires-2
+    returns-2
     enum-told-3
     from-byte-requires-3
     end-requires-3
+    returns-3
     enum-known-asked
     id-of-requires
     identify-requires
+    returns-4
     enum-known-asked-2
     from-byte-requires-4
     configure-requires
+    returns-5
     enum-known-asked-3
     from-byte-requires-5
     check-configuration-requires
+    returns-6
     enum-known-asked-4
     from-byte-requires-6
     unprotect-requires
+    returns-7
     enum-told-4
     from-byte-requires-7
     brought-up-requires
+    returns-8
     enum-told-5
     from-byte-requires-8
     disable-quad-requires
+    returns-9
     enum-told-6
     from-byte-requires-9
     quad-disabled-requires
+    returns-10
     enum-known-asked-5
     from-byte-requires-10
     judged-requires
+    returns-11
     enum-known-asked-6
     from-byte-requires-11
     programmed-requires
-    enum-told-7
+    returns-12
+    enum-known-asked-7
     from-byte-requires-12
     erased-requires
-    returns
-    returns-2
-    returns-3
-    returns-4
-    returns-5
-    returns-6
-    returns-7
-    returns-8
-    returns-9
-    returns-10
-    returns-11
-    returns-12
     returns-13)

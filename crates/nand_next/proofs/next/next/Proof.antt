@@ -9,12 +9,12 @@ enum-known-outcome c = search needs
 after-requires : tie.Need-after-requires
 after-requires c κs = search needs
 
-enum-known-outcome-2 : tie.Need-enum-known-outcome-2
-enum-known-outcome-2 c = search needs
-
 returns : tie.Need-returns
 unfolding nextOf
 returns c = simp (c .before .before .outcome .given .1, ← c .after .ensures)
+
+enum-known-outcome-2 : tie.Need-enum-known-outcome-2
+enum-known-outcome-2 c = search needs
 
 returns-2 : tie.Need-returns-2
 unfolding nextOf
@@ -22,4 +22,4 @@ returns-2 c = simp (c .before .outcome2 .given .1)
 
 pub next-spec : {M : Type 1} → statement M
 next-spec =
-    tie.close (tie.spec enum-known-outcome after-requires enum-known-outcome-2 returns returns-2)
+    tie.close (tie.spec enum-known-outcome after-requires returns enum-known-outcome-2 returns-2)

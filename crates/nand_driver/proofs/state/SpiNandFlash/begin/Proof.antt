@@ -29,4 +29,4 @@ returns-2 c = simp (c .before .enum-told2 .given .1, ← c .refused .ensures)
 pub begin-spec : {M : Type 1} → statement M
 begin-spec =
     tie.close
-    (tie.spec enum-told opening-of-requires idle-requires enum-told-2 refused-requires returns returns-2)
+    (tie.spec enum-told opening-of-requires idle-requires returns enum-told-2 refused-requires returns-2)

@@ -1,4 +1,10 @@
+use mathlib.Core.Bool.{false}
+use mathlib.Core.Path.{_∙_, ap}
 use borrow.Author.Needs.{needs}
+use Rattle.nand_phases.specs.declared.setup.Setup.{Setup}
+use Rattle.nand_driver.specs.Call.{freshSetup}
+use Rattle.nand_driver.specs.Step.{flashOf}
+use Rattle.nand_driver.specs.declared.state.Running.{Running}
 use Rattle.nand_driver.proofs.state.SpiNandFlash.not_built.Statement.{statement}
 use Rattle.nand_driver.proofs.state.SpiNandFlash.not_built.Tie as tie
 
@@ -12,7 +18,9 @@ flash-of-requires : tie.Need-flash-of-requires
 flash-of-requires c κs = search needs
 
 returns : tie.Need-returns
-returns c = simp (← c .flash-of .ensures, ← c .before .fresh .ensures, ← c .before .before .single .ensures)
+returns c =
+    c .flash-of .ensures
+    ∙ ap (λ (s : Setup). flashOf s false 0 Running.Idle) (c .before .fresh .ensures ∙ ap freshSetup (c .before .before .single .ensures))
 
 pub not-built-spec : {M : Type 1} → statement M
 not-built-spec = tie.close (tie.spec single-requires fresh-requires flash-of-requires returns)

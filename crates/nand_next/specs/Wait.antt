@@ -1,0 +1,54 @@
+-- wait_ready (nand/driver.rs), cut where it uses the bus, and what goes on behind it.
+use Prim.Native.Nat.{ℕ}
+use Rattle.qspi.specs.declared.transfer.Transfer.{Transfer}
+use Rattle.spi_flash.specs.Wait.{firstWait, nextWait}
+use Rattle.spi_flash.specs.declared.error.FlashError.{FlashError}
+use Rattle.spi_flash.specs.declared.wait.Wait.{Wait}
+use Rattle.spi_nand.specs.Opcode.{REG-STATUS, timingsOf}
+use Rattle.spi_nand.specs.Status.{busyOf}
+use Rattle.spi_nand.specs.declared.status.Status.{Status}
+use Rattle.nand_phases.specs.Transfer.{taskOperation}
+use Rattle.nand_phases.specs.declared.phase.Asked.{Asked}
+use Rattle.nand_phases.specs.declared.phase.Phase.{Phase}
+use Rattle.nand_phases.specs.declared.phase.ResetFor.{ResetFor}
+use Rattle.nand_phases.specs.declared.phase.Task.{Task}
+use Rattle.nand_phases.specs.declared.setup.Setup.{Setup}
+use Rattle.nand_steps.specs.Go.{goTo, done, ask, askId, look}
+use Rattle.nand_steps.specs.Page.{loadedThen}
+use Rattle.nand_steps.specs.Register.{writtenThen}
+use Rattle.nand_steps.specs.declared.then.Then.{Then}
+
+-- reset, reset_and_identify
+unfoldable pub resetThen : Setup → ResetFor → Then
+resetThen setup ResetFor.Reset = done setup
+resetThen setup (ResetFor.Identify within) = askId setup within
+
+-- what stands behind `self.wait_ready(..)?` of each
+unfoldable pub resumeTask : Setup → Task → Then
+resumeTask setup (Task.Reset why) = resetThen setup why
+resumeTask setup (Task.Register why) = writtenThen setup why
+resumeTask setup (Task.Load why) = loadedThen setup why
+resumeTask setup (Task.Program why) = ask setup REG-STATUS (Asked.Programmed why)
+resumeTask setup (Task.Erase why) = ask setup REG-STATUS (Asked.Erased why)
+
+-- `self.read_status()?.busy()`
+abbrev pub lookThen : Setup → Task → ℕ → Then
+lookThen setup task waited = look setup (Phase.Looking task waited)
+
+-- `self.delay.delay_us(..)`
+abbrev pub pauseThen : Setup → Task → ℕ → ℕ → Then
+pauseThen setup task us waited = goTo setup (Transfer.Pause us) (Phase.Pausing task waited)
+
+-- a step of the wait
+unfoldable pub waitThen : Setup → Task → Wait → Then
+waitThen setup task Wait.Look = lookThen setup task 0
+waitThen setup task (Wait.Pause us waited) = pauseThen setup task us waited
+waitThen setup task Wait.Ready = resumeTask setup task
+waitThen setup task Wait.Timeout = Then.Fail FlashError.Timeout
+
+-- the first step, and the one behind a look
+abbrev pub sentThen : Setup → Task → Then
+sentThen setup task = waitThen setup task (firstWait (timingsOf (taskOperation task)))
+
+abbrev pub lookedThen : Setup → Task → ℕ → Status → Then
+lookedThen setup task waited status = waitThen setup task (nextWait (timingsOf (taskOperation task)) waited (busyOf status))

@@ -1,0 +1,6 @@
+pub mod Go
+pub mod Register
+pub mod Cache
+pub mod Page
+pub mod Read
+pub mod Block
