@@ -7,6 +7,7 @@ use Rattle.qspi.specs.Choice.{pick}
 use Rattle.case_text.specs.Word.{wordOf, indexOf}
 use Rattle.case_text.specs.declared.line.Four.{Four}
 use Rattle.case_text.specs.declared.line.Quad.{Quad}
+use Rattle.spi_nand.specs.Config.{geometryOf}
 use Rattle.spi_nand.specs.declared.config.GeometrySetting.{GeometrySetting}
 use Rattle.spi_nand.specs.declared.config.QuadSetting.{QuadSetting}
 use Rattle.spi_nand.specs.declared.config.SpiNandConfig.{SpiNandConfig}

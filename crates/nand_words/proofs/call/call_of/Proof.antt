@@ -1,15 +1,22 @@
+use Prim.Native.Nat.{_≤_}
 use native.Mathlib.Omega.{arith}
 use borrow.Author.Needs.{needs}
-use Rattle.nand_words.proofs.Names.{call-at, past, call-last}
+use Rattle.nand_words.proofs.Names.{call-at, past, call-last, byte-bound}
 use Rattle.nand_words.specs.Call.{callOf}
 use Rattle.nand_words.proofs.call.call_of.Statement.{statement}
 use Rattle.nand_words.proofs.call.call_of.Tie as tie
 
-cast-t8 : tie.Need-cast-t8
-cast-t8 c = search needs
+cast-t7 : tie.Need-cast-t7
+cast-t7 c =
+    let s = c .before in
+    let h : s .args .first ≤ 255 = byte-bound {k = s .args .k} (omega arith) (s .pre .0) in
+    search needs
 
-cast-t9 : tie.Need-cast-t9
-cast-t9 c = search needs
+cast-t8 : tie.Need-cast-t8
+cast-t8 c =
+    let s = c .before in
+    let h : s .args .second ≤ 255 = byte-bound {k = s .args .k} (omega arith) (s .pre .1) in
+    search needs
 
 returns : tie.Need-returns
 unfolding callOf
@@ -146,8 +153,8 @@ pub call-of-spec : {M : Type 1} → statement M
 call-of-spec =
     tie.close
     (tie.spec
+    cast-t7
     cast-t8
-    cast-t9
     returns
     returns-2
     returns-3
