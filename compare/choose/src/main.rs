@@ -1,8 +1,11 @@
-//! `choose CASES TRACES TEXT ANSWERS COUNT`: chooses short cases whose traces hold COUNT answers between them, and
-//! writes their texts to TEXT and their traces to ANSWERS, each ended by a line `%`.
+//! `choose [--nand] CASES TRACES TEXT ANSWERS COUNT`: chooses COUNT short cases that show much between them, and writes
+//! their texts to TEXT and their traces to ANSWERS, each ended by a line `%`.
 //!
-//! First come the cases that end a call in a way that none before did, then those in which a call ends in a
-//! known way after another number of actions.
+//! First come cases until each call has ended with each number it can, shown each kind of action and got a bus error at each
+//! of its commands, each verdict of a load was there and each bound of a geometry was taken; then those in which a call
+//! ends in a known way after another number of actions.
+
+mod shows;
 
 use std::collections::HashSet;
 use std::fs;
@@ -10,17 +13,35 @@ use std::io;
 use std::path::PathBuf;
 use std::process::ExitCode;
 
-use case_text::frame;
+use case_text::{Dialect, NAND, NOR, frame};
 
-/// A case and its trace that have more bytes are left out: the list is stored. The shortest wait to a timeout fits.
+use shows::{Shown, finer, shown};
+
+/// A case and its trace that have more bytes are left out, unless no shorter one shows a number: the list is stored.
 const LONGEST: usize = 6_000;
+/// The port's difference that is wanted: the Rust's answers are not the port's.
+const LEFT_OUT: &[u8] = b"# large page\n";
 
-/// How a call ended: its name, its number, and after how many actions where those count.
-type End = (String, String, Option<usize>);
+struct Case<'a> {
+    text: &'a [u8],
+    trace: &'a [u8],
+    shows: HashSet<Shown>,
+    finer: HashSet<Shown>,
+}
+
+impl Case<'_> {
+    fn length(&self) -> usize {
+        self.text.len() + self.trace.len()
+    }
+}
 
 fn main() -> ExitCode {
     let words: Vec<String> = std::env::args().skip(1).collect();
-    let (paths, count) = match &words[..] {
+    let (dialect, words) = match &words[..] {
+        [driver, words @ ..] if driver == "--nand" => (NAND, words),
+        words => (NOR, words),
+    };
+    let (paths, count) = match words {
         [cases, traces, text, answers, count] => (
             [cases, traces, text, answers].map(PathBuf::from),
             count.parse().ok(),
@@ -28,10 +49,10 @@ fn main() -> ExitCode {
         _ => (Default::default(), None),
     };
     let Some(count) = count else {
-        eprintln!("usage: choose CASES TRACES TEXT ANSWERS COUNT");
+        eprintln!("usage: choose [--nand] CASES TRACES TEXT ANSWERS COUNT");
         return ExitCode::from(2);
     };
-    match choose(paths, count) {
+    match choose(&dialect, paths, count) {
         Ok(()) => ExitCode::SUCCESS,
         Err(error) => {
             eprintln!("choose: {error}");
@@ -40,71 +61,93 @@ fn main() -> ExitCode {
     }
 }
 
-fn choose([cases, traces, text, answers]: [PathBuf; 4], count: usize) -> io::Result<()> {
+fn choose(
+    dialect: &Dialect,
+    [cases, traces, text, answers]: [PathBuf; 4],
+    count: usize,
+) -> io::Result<()> {
     let (cases, traces) = (fs::read(cases)?, fs::read(traces)?);
-    let mut pairs: Vec<(&[u8], &[u8])> = frame::cases(&cases)
+    let all: Vec<Case> = frame::cases(&cases)
         .zip(frame::cases(&traces).map(without_head))
-        .filter(|pair| length(pair) <= LONGEST)
+        .filter(|(text, _)| !without_head(text).starts_with(LEFT_OUT))
+        .map(|(text, trace)| Case {
+            text,
+            trace,
+            shows: shown(dialect, text, trace),
+            finer: finer(trace),
+        })
         .collect();
-    // The shortest that shows an end is chosen for it.
-    pairs.sort_by_key(length);
-    let chosen = chosen(&pairs, count);
+    let mut chosen = numbers_of_long_cases(&all);
+    cover(&all, &mut chosen, usize::MAX, |case| &case.shows);
+    cover(&all, &mut chosen, count, |case| &case.finer);
+    chosen.sort_unstable();
     let (mut texts, mut expected) = (Vec::new(), Vec::new());
     for &index in &chosen {
-        let (case, trace) = pairs[index];
-        ended(&mut texts, case);
-        ended(&mut expected, trace);
+        ended(&mut texts, all[index].text);
+        ended(&mut expected, all[index].trace);
     }
     fs::write(text, texts)?;
     fs::write(answers, expected)?;
-    let answers: usize = chosen.iter().map(|&index| ends(pairs[index].1).len()).sum();
+    let answers: usize = chosen
+        .iter()
+        .map(|&index| shows::ends(all[index].trace).len())
+        .sum();
     println!("{} cases, {answers} answers", chosen.len());
     Ok(())
 }
 
-/// The places of the chosen cases.
-fn chosen(pairs: &[(&[u8], &[u8])], count: usize) -> Vec<usize> {
-    let mut chosen = Vec::new();
-    let mut answers = 0;
-    let mut seen = HashSet::new();
-    for with_actions in [false, true] {
-        for (index, (_, trace)) in pairs.iter().enumerate() {
-            if answers >= count {
-                break;
-            }
-            let ends = ends(trace);
-            let mut new = false;
-            for (name, number, actions) in &ends {
-                let actions = with_actions.then_some(*actions).flatten();
-                new |= seen.insert((name.clone(), number.clone(), actions));
-            }
-            if new && !chosen.contains(&index) {
-                answers += ends.len();
-                chosen.push(index);
-            }
-        }
-    }
-    chosen.sort_unstable();
-    chosen
+/// For each number that no short case shows, the shortest case that does.
+fn numbers_of_long_cases(all: &[Case]) -> Vec<usize> {
+    let numbers = |case: &Case| -> HashSet<Shown> {
+        let shows = case.shows.iter().cloned();
+        shows
+            .filter(|shown| matches!(shown, Shown::Number(_)))
+            .collect()
+    };
+    let short = all.iter().filter(|case| case.length() <= LONGEST);
+    let mut seen: HashSet<Shown> = short.flat_map(numbers).collect();
+    let mut by_length: Vec<usize> = (0..all.len()).collect();
+    by_length.sort_by_key(|&index| all[index].length());
+    by_length.retain(|&index| {
+        let new = numbers(&all[index]).difference(&seen).count() > 0;
+        seen.extend(numbers(&all[index]));
+        new
+    });
+    by_length
 }
 
-/// How each call of a trace ended.
-fn ends(trace: &[u8]) -> Vec<End> {
-    let mut ends = Vec::new();
-    let (mut name, mut actions) = (String::new(), 0);
-    for line in String::from_utf8_lossy(trace).lines() {
-        match line.split_once(' ').unwrap_or((line, "")) {
-            ("call", called) => (name, actions) = (called.into(), 0),
-            ("E", number) => ends.push((name.clone(), number.into(), Some(actions))),
-            ("V" | "G" | "B", _) => {}
-            _ => actions += 1,
-        }
+/// Adds short cases, up to so many in all, each time the one that shows most for its length, until nothing new is left.
+fn cover<'a>(
+    all: &'a [Case<'a>],
+    chosen: &mut Vec<usize>,
+    count: usize,
+    shows: impl Fn(&'a Case<'a>) -> &'a HashSet<Shown>,
+) {
+    let mut seen: HashSet<&Shown> = chosen
+        .iter()
+        .flat_map(|&index| shows(&all[index]))
+        .collect();
+    while chosen.len() < count {
+        let gain = |case: &'a Case<'a>| {
+            let new = shows(case)
+                .iter()
+                .filter(|shown| !seen.contains(shown))
+                .count();
+            (new * 1_000_000).checked_div(case.length()).unwrap_or(0)
+        };
+        let short = all
+            .iter()
+            .enumerate()
+            .filter(|(_, case)| case.length() <= LONGEST);
+        let best = short
+            .map(|(index, case)| (gain(case), index))
+            .max_by_key(|&(gain, index)| (gain, usize::MAX - index));
+        let Some((1.., index)) = best else {
+            return;
+        };
+        seen.extend(shows(&all[index]));
+        chosen.push(index);
     }
-    ends
-}
-
-fn length((case, trace): &(&[u8], &[u8])) -> usize {
-    case.len() + trace.len()
 }
 
 fn without_head(trace: &[u8]) -> &[u8] {

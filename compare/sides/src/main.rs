@@ -1,10 +1,11 @@
-//! `sides CASES TRACES OUT [PROGRAM]`: runs the port on each case of CASES, writes what it prints to OUT, and
-//! compares that with the case's trace in TRACES. The port is PROGRAM, with the text on standard input, or
-//! else the function of the library that was linked.
+//! `sides [--nand] CASES TRACES OUT [PROGRAM]`: runs the port on each case of CASES, writes what it prints to OUT,
+//! and compares that with the case's trace in TRACES. The port is PROGRAM, with the text on standard input, or
+//! else a function of the library that was linked: the NOR's, or with `--nand` the NAND's.
 //!
 //! The first differences are shown, then the number of cases and of differences. Both sides must be the
-//! same to the last byte.
+//! same to the last byte, but for the one difference that is wanted ([`large_page`]).
 
+mod large_page;
 mod linked;
 mod program;
 
@@ -27,14 +28,18 @@ enum Port {
 }
 
 fn main() -> ExitCode {
-    let paths: Vec<PathBuf> = std::env::args_os().skip(1).map(PathBuf::from).collect();
-    let [cases, traces, out, program @ ..] = &paths[..] else {
-        eprintln!("usage: sides CASES TRACES OUT [PROGRAM]");
+    let words: Vec<PathBuf> = std::env::args_os().skip(1).map(PathBuf::from).collect();
+    let (nand, paths) = match &words[..] {
+        [driver, paths @ ..] if driver.as_os_str() == "--nand" => (true, paths),
+        paths => (false, paths),
+    };
+    let [cases, traces, out, program @ ..] = paths else {
+        eprintln!("usage: sides [--nand] CASES TRACES OUT [PROGRAM]");
         return ExitCode::from(2);
     };
     let port = match program {
         [program] => Some(Port::Program(Program::new(program, out))),
-        _ => Linked::new().map(Port::Linked),
+        _ => Linked::new(nand).map(Port::Linked),
     };
     let Some(port) = port else {
         eprintln!("sides: no PROGRAM, and no library was linked");
@@ -54,7 +59,7 @@ fn main() -> ExitCode {
 fn compare(cases: &Path, traces: &Path, mut port: Port, out: &Path) -> io::Result<usize> {
     let (cases, traces) = (fs::read(cases)?, fs::read(traces)?);
     let mut written = BufWriter::new(File::create(out)?);
-    let (mut count, mut differences) = (0, 0);
+    let (mut count, mut differences, mut wanted) = (0, 0, 0);
     let mut expected = frame::cases(&traces);
     for case in frame::cases(&cases) {
         let expected = expected.next().unwrap_or_default();
@@ -65,7 +70,12 @@ fn compare(cases: &Path, traces: &Path, mut port: Port, out: &Path) -> io::Resul
         let trace = framed(frame::head(case), &trace);
         written.write_all(&trace)?;
         count += 1;
-        if trace != expected {
+        if trace == expected {
+            continue;
+        }
+        if large_page::is_wanted(case, expected, &trace) {
+            wanted += 1;
+        } else {
             differences += 1;
             if differences <= SHOWN {
                 show(frame::head(case), expected, &trace);
@@ -76,6 +86,11 @@ fn compare(cases: &Path, traces: &Path, mut port: Port, out: &Path) -> io::Resul
         program.clear()?;
     }
     written.flush()?;
+    if wanted > 0 {
+        println!(
+            "{wanted} cases differ as wanted: a large page is refused once the part is identified"
+        );
+    }
     println!("{count} cases, {differences} differences");
     Ok(differences)
 }

@@ -1,7 +1,7 @@
 // Prints the traces of a list of NOR cases, each ended by a line with a mark: the Rust's answers, which are stored.
 use case_text::word;
+use nor_case::case;
 use qspi::bytes;
-use trace::nor_case;
 
 const STDIN: i32 = 0;
 
@@ -19,7 +19,7 @@ fn show(text: &[u8]) {
     let mut room = [0u8; 65536];
     let mut reply = [0u8; 65536];
     let mut out = [0u8; 65536];
-    let n = nor_case::nor_trace_case(text, &mut room, &mut reply, &mut out);
+    let n = case::traced(text, &mut room, &mut reply, &mut out);
     io::write_all(STDOUT, bytes::delivered(&out, n));
     io::write_all(STDOUT, b"%\n");
 }

@@ -1,8 +1,8 @@
 // Prints the trace of the NOR case on standard input.
+use nor_case::turn;
 use nor_turns::state;
 use qspi::bytes;
-use trace::nor_case;
-use trace::nor_turn;
+use trace_turns::budget;
 
 const STDIN: i32 = 0;
 
@@ -18,13 +18,13 @@ const ROOM: usize = 3145728;
 fn print_case(text: &[u8], room: &mut [u8], reply: &mut [u8], out: &mut [u8]) {
     let mut scratch = [0u8; 264];
     let mut now = state::start();
-    let most = nor_case::budget(text.len(), room.len());
+    let most = budget::budget(text.len(), room.len());
     let mut i = 0;
     while i < most {
         if state::over(now) {
             return;
         }
-        let next = nor_turn::advance(now, text, &mut scratch, room, reply, out, 0);
+        let next = turn::advance(now, text, &mut scratch, room, reply, out, 0);
         io::write_all(STDOUT, bytes::delivered(out, next.at));
         now = next.trace;
         i += 1;

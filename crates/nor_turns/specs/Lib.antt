@@ -1,4 +1,4 @@
 pub mod State
-pub mod Between
+pub mod Setting
 pub mod Reading
 pub mod Giving

@@ -1,6 +1,5 @@
 -- A turn that takes a line between two calls.
 use Prim.Native.Nat.{ℕ}
-use mathlib.Core.Bool.{Bool, true, false}
 use mathlib.Core.List.{List}
 use lib.ListN.{length}
 use Rattle.qspi.specs.Choice.{pick}
@@ -9,15 +8,18 @@ use Rattle.case_text.specs.Line.{lineAt, nextOf}
 use Rattle.case_text.specs.Word.{wordOf}
 use Rattle.case_text.specs.declared.line.Line.{Line}
 use Rattle.spi_flash.specs.declared.loan.Takes.{Takes}
+use Rattle.trace_words.specs.Heard.{isCall}
+use Rattle.trace_words.specs.Loan.{laidOf}
+use Rattle.trace_words.specs.Print.{callLine}
+use Rattle.trace_turns.specs.Between.{betweenAt}
+use Rattle.trace_turns.specs.declared.place.Mode.{Mode}
 use Rattle.nor_driver.specs.Step.{Moved}
 use Rattle.nor_words.specs.Call.{askedOf}
 use Rattle.nor_words.specs.Heard.{lineOf}
-use Rattle.nor_words.specs.Lent.{laidOf, begunOver}
-use Rattle.nor_words.specs.Print.{callLine}
+use Rattle.nor_words.specs.Lent.{begunOver}
 use Rattle.nor_words.specs.declared.call.Asked.{Asked}
-use Rattle.nor_turns.specs.Between.{betweenAt}
-use Rattle.nor_turns.specs.State.{inMode, placeIn, placedAt, startedOf}
-use Rattle.nor_turns.specs.declared.state.Mode.{Mode}
+use Rattle.nor_turns.specs.Setting.{configAt}
+use Rattle.nor_turns.specs.State.{traceOf, inMode, startedOf}
 use Rattle.nor_turns.specs.declared.state.Trace.{Trace}
 
 -- a trace, the room and what was printed, after a line
@@ -42,22 +44,13 @@ calledAt Asked.Bad trace line next scratch room out = calledTo (inMode trace Mod
 
 unfoldable pub calledOf : Trace → List ℕ → List ℕ → List ℕ → Text → Called
 calledOf trace text scratch room out =
-    calledAt (askedOf (lineAt text (trace .at)) (trace .config) (length room)) trace (lineAt text (trace .at)) (nextOf text (trace .at)) scratch room out
+    calledAt (askedOf (lineAt text (trace .place .at)) (trace .config) (length room)) trace (lineAt text (trace .place .at)) (nextOf text (trace .place .at)) scratch room out
 
-abbrev pub isCall : Line → Bool
-isCall Line.End = false
-isCall Line.Passed = false
-isCall Line.Done = false
-isCall Line.Data = false
-isCall (Line.BusError code) = false
-isCall Line.NoQuad = false
-isCall (Line.Quad q) = false
-isCall Line.NoOwn = false
-isCall (Line.Own n) = false
-isCall Line.Call = true
-isCall Line.Bad = false
+-- any other line
+abbrev pub takenOf : Trace → Line → ℕ → Trace
+takenOf trace line next = traceOf (trace .stepped) (configAt (trace .config) line) (betweenAt (trace .place) line next)
 
 unfoldable pub readingOf : Trace → List ℕ → List ℕ → List ℕ → Text → Called
 readingOf trace text scratch room out =
-    pick (isCall (lineOf text (trace .at))) (calledOf trace text scratch room out)
-    (calledTo (placedAt trace (betweenAt (placeIn trace) (lineOf text (trace .at)) (nextOf text (trace .at)))) room out)
+    pick (isCall (lineOf text (trace .place .at))) (calledOf trace text scratch room out)
+    (calledTo (takenOf trace (lineOf text (trace .place .at)) (nextOf text (trace .place .at))) room out)

@@ -1,7 +1,6 @@
 // A turn that takes a line between two calls.
-use crate::between;
+use crate::setting;
 use crate::state;
-use crate::state::Mode;
 use crate::state::Trace;
 use crate::state::Traced;
 use case_text::line;
@@ -11,10 +10,12 @@ use nor_words::call;
 use nor_words::call::Asked;
 use nor_words::heard;
 use nor_words::lent;
-use nor_words::print;
+use trace_turns::between;
+use trace_turns::place::Mode;
+use trace_words::print;
 ghost use mathlib.Core.Path.{_≡_};
 ghost use Rattle.lines.specs.Text.{textOf};
-ghost use Rattle.nor_turns.specs.Reading.{calledTo, calledOf, readingOf};
+ghost use Rattle.nor_turns.specs.Reading.{calledTo, calledOf, takenOf, readingOf};
 
 // Begins the call of the next line, and prints its name.
 fn called(
@@ -27,20 +28,34 @@ fn called(
 ) -> Traced
     ensures { λ r. ⌜ calledTo (r .trace) (now (room .exit)) (textOf (now (out .exit)) (r .at)) ≡ calledOf trace (now (text .entry)) (now (scratch .entry)) (now (room .entry)) (textOf (now (out .entry)) at) ⌝ }
 {
-    let from = trace.at;
+    let place = trace.place;
     let config = trace.config;
     let stepped = trace.stepped;
     let flash = stepped.flash;
-    let line = line::line_at(text, from);
+    let line = line::line_at(text, place.at);
     match call::asked_by(line, config, room.len()) {
         Asked::Begin { call, takes } => {
             let begun = lent::begin(flash, call, takes, line, scratch, room);
             let behind = print::call(out, at, word::word(line, 1));
-            let next = line::next_line(text, from);
+            let next = line::next_line(text, place.at);
             state::traced_at(state::started(trace, begun, takes, next), behind)
         }
         Asked::Bad => state::traced_at(state::in_mode(trace, Mode::Bad), at),
     }
+}
+
+// Any other line; the next one begins at next.
+fn taken(trace: Trace, line: Line, next: usize) -> Trace
+    ensures { λ r. ⌜ r ≡ takenOf trace line next ⌝ }
+{
+    let stepped = trace.stepped;
+    let config = trace.config;
+    let place = trace.place;
+    state::trace_of(
+        stepped,
+        setting::config_at(config, line),
+        between::between(place, line, next),
+    )
 }
 
 pub fn reading(
@@ -53,12 +68,11 @@ pub fn reading(
 ) -> Traced
     ensures { λ r. ⌜ calledTo (r .trace) (now (room .exit)) (textOf (now (out .exit)) (r .at)) ≡ readingOf trace (now (text .entry)) (now (scratch .entry)) (now (room .entry)) (textOf (now (out .entry)) at) ⌝ }
 {
-    let from = trace.at;
-    let line = heard::line_of(text, from);
+    let place = trace.place;
+    let line = heard::line_of(text, place.at);
     if let Line::Call = line {
         return called(trace, text, scratch, room, out, at);
     }
-    let next = line::next_line(text, from);
-    let place = between::between(state::place_of(trace), line, next);
-    state::traced_at(state::placed(trace, place), at)
+    let next = line::next_line(text, place.at);
+    state::traced_at(taken(trace, line, next), at)
 }

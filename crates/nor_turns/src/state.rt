@@ -6,51 +6,18 @@ use nor_driver::step;
 use spi_flash::error::FlashError;
 use spi_flash::loan::Takes;
 use spi_nor::config::SpiNorConfig;
+use trace_turns::place;
+use trace_turns::place::Mode;
+use trace_turns::place::Place;
 ghost use mathlib.Core.Path.{_≡_};
-ghost use Rattle.nor_turns.specs.State.{traceOf, startOf, overOf, tracedAt, inMode, readTo, placeIn, placedAt, begunOf, startedOf, gaveTo, countedOf};
-
-// What the next turn does.
-pub enum Mode {
-    // It takes a line between two calls.
-    Reading,
-    // It prints what the driver has given.
-    Giving,
-    // It answers the action that is out.
-    Awaiting,
-    // It prints the caller's buffer from this place on.
-    Showing(usize),
-    // It prints that the next line is bad.
-    Bad,
-    // Nothing.
-    Over,
-}
-
-// What the call takes, in the room.
-pub struct Lent {
-    pub takes: Takes,
-    // A call that is turned away has delivered nothing, whatever the driver's count says.
-    pub begun: bool,
-}
+ghost use Rattle.nor_turns.specs.State.{traceOf, startOf, overAt, tracedAt, placedAt, inMode, begunOf, startedOf, gaveTo};
 
 pub struct Trace {
     // The driver with what it gave last.
     pub stepped: Stepped,
     // The settings for the next `new`.
     pub config: SpiNorConfig,
-    pub lent: Lent,
-    // The position of the next line.
-    pub at: usize,
-    // A reply may stand there: a call or another reply came last.
-    pub replies: bool,
-    pub mode: Mode,
-}
-
-// What a line between two calls changes.
-pub struct Place {
-    pub config: SpiNorConfig,
-    pub at: usize,
-    pub replies: bool,
-    pub mode: Mode,
+    pub place: Place,
 }
 
 // A trace after a turn, and the place behind what was printed.
@@ -59,23 +26,13 @@ pub struct Traced {
     pub at: usize,
 }
 
-pub fn trace_of(
-    stepped: Stepped,
-    config: SpiNorConfig,
-    lent: Lent,
-    at: usize,
-    replies: bool,
-    mode: Mode,
-) -> Trace
-    ensures { λ r. ⌜ r ≡ traceOf stepped config lent at replies mode ⌝ }
+pub fn trace_of(stepped: Stepped, config: SpiNorConfig, place: Place) -> Trace
+    ensures { λ r. ⌜ r ≡ traceOf stepped config place ⌝ }
 {
     Trace {
         stepped: stepped,
         config: config,
-        lent: lent,
-        at: at,
-        replies: replies,
-        mode: mode,
+        place: place,
     }
 }
 
@@ -86,21 +43,15 @@ pub fn start() -> Trace
     trace_of(
         step::refused(SpiNorFlash::not_built(), FlashError::OutOfTurn),
         SpiNorConfig::single(),
-        Lent {
-            takes: Takes::Nothing,
-            begun: false,
-        },
-        0,
-        false,
-        Mode::Reading,
+        place::start(),
     )
 }
 
 pub fn over(trace: Trace) -> bool
-    ensures { λ r. ⌜ r ≡ overOf trace ⌝ }
+    ensures { λ r. ⌜ r ≡ overAt trace ⌝ }
 {
-    let mode = trace.mode;
-    if let Mode::Over = mode { true } else { false }
+    let place = trace.place;
+    place::over(place)
 }
 
 pub fn traced_at(trace: Trace, at: usize) -> Traced
@@ -112,47 +63,19 @@ pub fn traced_at(trace: Trace, at: usize) -> Traced
     }
 }
 
-pub fn in_mode(trace: Trace, mode: Mode) -> Trace
-    ensures { λ r. ⌜ r ≡ inMode trace mode ⌝ }
-{
-    let stepped = trace.stepped;
-    let config = trace.config;
-    let lent = trace.lent;
-    trace_of(stepped, config, lent, trace.at, trace.replies, mode)
-}
-
-// A line is passed over.
-pub fn read_to(trace: Trace, next: usize) -> Trace
-    ensures { λ r. ⌜ r ≡ readTo trace next ⌝ }
-{
-    let stepped = trace.stepped;
-    let config = trace.config;
-    let lent = trace.lent;
-    let mode = trace.mode;
-    trace_of(stepped, config, lent, next, trace.replies, mode)
-}
-
-pub fn place_of(trace: Trace) -> Place
-    ensures { λ r. ⌜ r ≡ placeIn trace ⌝ }
-{
-    let config = trace.config;
-    let mode = trace.mode;
-    Place {
-        config: config,
-        at: trace.at,
-        replies: trace.replies,
-        mode: mode,
-    }
-}
-
 pub fn placed(trace: Trace, place: Place) -> Trace
     ensures { λ r. ⌜ r ≡ placedAt trace place ⌝ }
 {
     let stepped = trace.stepped;
-    let lent = trace.lent;
-    let config = place.config;
-    let mode = place.mode;
-    trace_of(stepped, config, lent, place.at, place.replies, mode)
+    let config = trace.config;
+    trace_of(stepped, config, place)
+}
+
+pub fn in_mode(trace: Trace, mode: Mode) -> Trace
+    ensures { λ r. ⌜ r ≡ inMode trace mode ⌝ }
+{
+    let place = trace.place;
+    placed(trace, place::in_mode(place, mode))
 }
 
 fn has_begun(given: Given) -> bool
@@ -172,11 +95,11 @@ pub fn started(trace: Trace, stepped: Stepped, takes: Takes, next: usize) -> Tra
 {
     let config = trace.config;
     let given = stepped.given;
-    let lent = Lent {
-        takes: takes,
-        begun: has_begun(given),
-    };
-    trace_of(stepped, config, lent, next, true, Mode::Giving)
+    trace_of(
+        stepped,
+        config,
+        place::started(takes, has_begun(given), next),
+    )
 }
 
 // The driver has given something.
@@ -184,19 +107,6 @@ pub fn gave(trace: Trace, stepped: Stepped, next: usize) -> Trace
     ensures { λ r. ⌜ r ≡ gaveTo trace stepped next ⌝ }
 {
     let config = trace.config;
-    let lent = trace.lent;
-    trace_of(stepped, config, lent, next, true, Mode::Giving)
-}
-
-// How many bytes the call has delivered.
-pub fn counted(trace: Trace) -> usize
-    ensures { λ r. ⌜ r ≡ countedOf trace ⌝ }
-{
-    let lent = trace.lent;
-    let stepped = trace.stepped;
-    let flash = stepped.flash;
-    if lent.begun {
-        return flash.delivered;
-    }
-    0
+    let place = trace.place;
+    trace_of(stepped, config, place::gave(place, next))
 }

@@ -10,7 +10,8 @@ use Rattle.spi_flash.specs.declared.loan.Takes.{Takes}
 use Rattle.nor_driver.specs.Answer.{endingOf}
 use Rattle.nor_driver.specs.declared.state.Given.{Given}
 use Rattle.nor_driver.proofs.state.Given as given
-use Rattle.nor_words.specs.End.{endingLines, countLine, givenLines}
+use Rattle.trace_words.specs.Print.{countLine}
+use Rattle.nor_words.specs.End.{endingLines, givenLines}
 
 pub end-lines : (g : Given) (takes : Takes) (n : ℕ) (scratch room : List ℕ) (t : Text) → OneOf (1 ∷ 2 ∷ 3 ∷ []) (tagOf given.the-type g) →
     appended (countLine takes n) (appended (endingLines (endingOf g)) t) ≡ appended (givenLines g takes n scratch room) t

@@ -1,4 +1,4 @@
--- The first and the last of the calls without a number; the last stands for every place past it.
+-- The calls by their places; the last stands for every place past it.
 use Prim.Native.Nat.{ℕ, suc, _≤_}
 use native.Mathlib.Omega.{arith}
 use mathlib.Core.Bool.{Bool, true, false}
@@ -8,21 +8,20 @@ use lib.Dec.{ltb}
 use borrow.Author.Tests.{ltb-true, ltb-false}
 use Rattle.spi_nor.specs.declared.config.SpiNorConfig.{SpiNorConfig}
 use Rattle.nor_driver.specs.declared.state.Call.{Call}
-use Rattle.nor_words.specs.Call.{plainCalls, plainCall}
+use Rattle.nor_words.specs.Call.{calls, callOf}
 
-pub plain-first : (k : ℕ) (config : SpiNorConfig) → k ≡ 0 → Call.WithConfig config ≡ plainCall k config
-unfolding plainCall
-plain-first k config h = rw h
+pub call-at : (n k : ℕ) (config : SpiNorConfig) (first second : ℕ) → k ≡ n → callOf n config first second ≡ callOf k config first second
+call-at n k config first second h = rw h
 
 pub past : {n k : ℕ} → n ≤ k → (k ≡ n → ⊥) → suc n ≤ k
 past h other = omega arith
 
-pub plain-last : (k : ℕ) (config : SpiNorConfig) → 14 ≤ k → Call.Unprotect ≡ plainCall k config
-unfolding plainCall
-plain-last k config h = at (ltb k 15) refl
+pub call-last : (k : ℕ) (config : SpiNorConfig) (first second : ℕ) → 19 ≤ k → Call.EraseBlock first ≡ callOf k config first second
+unfolding callOf
+call-last k config first second h = at (ltb k 20) refl
   where
-    at : (b : Bool) → ltb k 15 ≡ b → Call.Unprotect ≡ plainCall k config
+    at : (b : Bool) → ltb k 20 ≡ b → Call.EraseBlock first ≡ callOf k config first second
     at true e =
-        let p : k ≡ 14 = omega (arith, ltb-true k 15 e) in
+        let p : k ≡ 19 = omega (arith, ltb-true k 20 e) in
         rw p
-    at false e = sym (List·getD-eq-default (plainCalls config) Call.Unprotect {n = k} (ltb-false k 15 e))
+    at false e = sym (List·getD-eq-default (calls config first second) (Call.EraseBlock first) {n = k} (ltb-false k 20 e))

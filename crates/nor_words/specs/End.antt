@@ -4,21 +4,15 @@ use Prim.Native.Nat.{ℕ}
 use Rattle.qspi.specs.Shown.{shownOf}
 use Rattle.lines.specs.Line.{lineOf, endLine}
 use Rattle.spi_flash.specs.declared.loan.Takes.{Takes}
+use Rattle.trace_words.specs.Loan.{dataOf}
+use Rattle.trace_words.specs.Print.{countLine, valuesLine}
 use Rattle.nor_driver.specs.Answer.{Ending, goes, endsWith, endingOf}
 use Rattle.nor_driver.specs.declared.state.Given.{Given}
-use Rattle.nor_words.specs.Lent.{dataOf}
-use Rattle.nor_words.specs.Print.{valuesLine, deliveredLine}
 
 -- "E n, document 01's number", then "V and the values of the answer"
 unfoldable pub endingLines : Ending → List ℕ
 endingLines goes = []
 endingLines (endsWith number values) = endLine number ++ valuesLine values
-
--- "for a call with a buffer: G and the number of bytes delivered"
-abbrev pub countLine : Takes → ℕ → List ℕ
-countLine Takes.Nothing n = []
-countLine (Takes.Buffer k) n = deliveredLine n
-countLine (Takes.Data k) n = []
 
 -- "then a line for each action given out", and the lines of the call's end
 unfoldable pub givenLines : Given → Takes → ℕ → List ℕ → List ℕ → List ℕ

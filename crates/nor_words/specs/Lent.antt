@@ -1,38 +1,17 @@
--- What a NOR call lends, at the beginning of the room, and a reply handed to the driver with it.
+-- A call and a reply handed to the NOR's driver, with what the call lends at the beginning of the room.
 use Prim.Native.Nat.{ℕ}
 use mathlib.Core.List.{List, [], _++_}
-use lib.ListN.{length, take, drop, replicate}
+use lib.ListN.{length, take, drop}
 use lib.Dec.{leb}
-use Rattle.qspi.specs.Bytes.{deliveredOf}
 use Rattle.qspi.specs.Choice.{pick}
 use Rattle.qspi.specs.declared.bus.Reply.{Reply}
-use Rattle.case_text.specs.Number.{bytesOf}
 use Rattle.spi_flash.specs.declared.error.FlashError.{FlashError}
 use Rattle.spi_flash.specs.declared.loan.Takes.{Takes}
+use Rattle.trace_words.specs.Loan.{bufferOf, dataOf}
 use Rattle.nor_driver.specs.Call.{beginOf}
 use Rattle.nor_driver.specs.Step.{Moved, movedTo, refusedOf, stepOf}
 use Rattle.nor_driver.specs.declared.state.Call.{Call}
 use Rattle.nor_driver.specs.declared.state.SpiNorFlash.{SpiNorFlash}
-use Rattle.nor_words.specs.Call.{digitsAfter}
-
-abbrev pub bufferOf : Takes → List ℕ → List ℕ
-bufferOf Takes.Nothing room = []
-bufferOf (Takes.Buffer n) room = take n room
-bufferOf (Takes.Data n) room = []
-
-abbrev pub dataOf : Takes → List ℕ → List ℕ
-dataOf Takes.Nothing room = []
-dataOf (Takes.Buffer n) room = []
-dataOf (Takes.Data n) room = take n room
-
--- "the buffer is filled with CC before the call"
-unfoldable pub filledOf : ℕ → List ℕ → List ℕ
-filledOf n room = deliveredOf room 0 (replicate n 0xCC)
-
-unfoldable pub laidOf : Takes → List ℕ → List ℕ → List ℕ
-laidOf Takes.Nothing line room = room
-laidOf (Takes.Buffer n) line room = filledOf n room
-laidOf (Takes.Data n) line room = deliveredOf room 0 (bytesOf (digitsAfter line))
 
 -- a call handed to the driver, with what it lends in the room
 unfoldable pub begunOver : SpiNorFlash → Call → Takes → List ℕ → List ℕ → Moved

@@ -1,4 +1,3 @@
-pub mod Print
 pub mod Call
 pub mod Lent
 pub mod End

@@ -1,21 +1,17 @@
 // The lines of what the NOR's driver gives: an action, or a call's end with its number, its values and how much was delivered.
-use crate::lent;
-use crate::print;
 use lines::line;
 use lines::text;
 use nor_answers::answer::Answer;
 use nor_driver::state::Given;
-use spi_flash::error::FlashError;
 use spi_flash::loan::Takes;
+use trace_words::loan;
+use trace_words::print;
 ghost use mathlib.Core.Path.{_≡_};
 ghost use Rattle.lines.specs.Text.{textOf, appended};
 ghost use Rattle.nor_driver.specs.Answer.{endingOf};
 ghost use Rattle.nor_answers.specs.Answer.{answerValues};
-ghost use Rattle.spi_flash.specs.Error.{errorValues};
-ghost use Rattle.nor_words.specs.Print.{valuesLine};
-ghost use Rattle.nor_words.specs.End.{endingLines, countLine, givenLines};
-
-const VALUES: u8 = 86;
+ghost use Rattle.trace_words.specs.Print.{valuesLine};
+ghost use Rattle.nor_words.specs.End.{endingLines, givenLines};
 
 fn answer_values(out: &mut [u8], at: usize, answer: Answer) -> usize
     ensures { λ r. ⌜ textOf (now (out .exit)) r ≡ appended (valuesLine (answerValues answer)) (textOf (now (out .entry)) at) ⌝ }
@@ -24,25 +20,13 @@ fn answer_values(out: &mut [u8], at: usize, answer: Answer) -> usize
     if n == 0 {
         return at;
     }
-    let mut behind = text::put(out, at, VALUES);
+    let mut behind = text::put(out, at, print::VALUES);
     let mut i = 0;
     while i < n {
         behind = line::field(out, behind, answer.value(i));
         i += 1;
     }
     text::put(out, behind, text::NEWLINE)
-}
-
-// Only a bus error has a value: its code.
-fn error_values(out: &mut [u8], at: usize, error: FlashError) -> usize
-    ensures { λ r. ⌜ textOf (now (out .exit)) r ≡ appended (valuesLine (errorValues error)) (textOf (now (out .entry)) at) ⌝ }
-{
-    let FlashError::Spi(code) = error else {
-        return at;
-    };
-    let behind = text::put(out, at, VALUES);
-    let end = line::field(out, behind, code as u64);
-    text::put(out, end, text::NEWLINE)
 }
 
 // Nothing where the call goes on.
@@ -57,22 +41,12 @@ fn ending(out: &mut [u8], at: usize, given: Given) -> usize
         }
         Given::Failed(error) => {
             let behind = line::end(out, at, given.number());
-            error_values(out, behind, error)
+            print::error_values(out, behind, error)
         }
         Given::Refused(error) => {
             let behind = line::end(out, at, given.number());
-            error_values(out, behind, error)
+            print::error_values(out, behind, error)
         }
-    }
-}
-
-fn count(out: &mut [u8], at: usize, takes: Takes, n: usize) -> usize
-    ensures { λ r. ⌜ textOf (now (out .exit)) r ≡ appended (countLine takes n) (textOf (now (out .entry)) at) ⌝ }
-{
-    match takes {
-        Takes::Nothing => at,
-        Takes::Buffer(_) => print::delivered(out, at, n),
-        Takes::Data(_) => at,
     }
 }
 
@@ -89,9 +63,9 @@ pub fn given_lines<'a>(
     ensures { λ r. ⌜ textOf (now (out .exit)) r ≡ appended (givenLines given takes n (now (scratch .entry)) (now (room .entry))) (textOf (now (out .entry)) at) ⌝ }
 {
     if let Given::Act(action) = given {
-        let data = lent::data(takes, room);
+        let data = loan::data(takes, room);
         return line::action(out, at, action, scratch, data);
     }
     let behind = ending(out, at, given);
-    count(out, behind, takes, n)
+    print::count(out, behind, takes, n)
 }

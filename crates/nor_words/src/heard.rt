@@ -1,26 +1,15 @@
-// What a line says where a reply is awaited.
+// A line in the NOR's words, and what it says where a reply is awaited.
 use crate::call;
 use crate::call::Asked;
 use case_text::line;
 use case_text::line::Line;
-use qspi::bus::Reply;
 use spi_nor::config::SpiNorConfig;
+use trace_words::heard;
+use trace_words::heard::Heard;
 ghost use mathlib.Core.Path.{_≡_};
 ghost use Rattle.nor_words.specs.Heard.{lineOf, callHeard, heardOf};
 
-pub enum Heard {
-    // Empty, or a comment.
-    Passed,
-    // A reply without bytes.
-    Reply(Reply),
-    // The digits of the reply's bytes stand behind the first character.
-    Bytes,
-    // No reply is left.
-    Spent,
-    Bad,
-}
-
-// The line that begins at a place, in the NOR's words.
+// The line that begins at a place.
 pub fn line_of(text: &[u8], at: usize) -> Line
     ensures { λ r. ⌜ r ≡ lineOf (now (text .entry)) at ⌝ }
 {
@@ -40,17 +29,9 @@ fn call_heard(line: &[u8], config: SpiNorConfig, room_len: usize) -> Heard
 pub fn heard_at(text: &[u8], at: usize, config: SpiNorConfig, room_len: usize) -> Heard
     ensures { λ r. ⌜ r ≡ heardOf (now (text .entry)) at config «room_len» ⌝ }
 {
-    match line_of(text, at) {
-        Line::End => Heard::Spent,
-        Line::Passed => Heard::Passed,
-        Line::Done => Heard::Reply(Reply::Done),
-        Line::Data => Heard::Bytes,
-        Line::BusError(code) => Heard::Reply(Reply::Error(code)),
-        Line::NoQuad => Heard::Spent,
-        Line::Quad(_) => Heard::Spent,
-        Line::NoOwn => Heard::Spent,
-        Line::Own(_) => Heard::Spent,
-        Line::Call => call_heard(line::line_at(text, at), config, room_len),
-        Line::Bad => Heard::Bad,
+    let line = line_of(text, at);
+    if let Line::Call = line {
+        return call_heard(line::line_at(text, at), config, room_len);
     }
+    heard::heard_in(line)
 }

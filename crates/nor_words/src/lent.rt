@@ -1,5 +1,4 @@
-// What a NOR call lends: its buffer or its data, at the beginning of the room; and the driver's calls and steps with it.
-use case_text::word;
+// The NOR driver's calls and steps, with what a call lends.
 use nor_driver::state::Call;
 use nor_driver::state::SpiNorFlash;
 use nor_driver::state::Stepped;
@@ -8,63 +7,12 @@ use qspi::bus::Reply;
 use qspi::bytes;
 use spi_flash::error::FlashError;
 use spi_flash::loan::Takes;
+use trace_words::loan;
 ghost use mathlib.Core.List.{[]};
 ghost use mathlib.Core.Path.{_≡_};
-ghost use lib.ListN.{length};
 ghost use Rattle.nor_driver.specs.Step.{movedTo};
-ghost use Rattle.nor_words.specs.Lent.{bufferOf, dataOf, filledOf, laidOf, begunOver, noneOver, bufferOver, dataOver, answeredOver};
-
-// What the caller's buffer holds before a call.
-const FILL: u8 = 0xCC;
-
-pub fn buffer(takes: Takes, room: &[u8]) -> &[u8]
-    ensures { λ r. ⌜ now r ≡ bufferOf takes (now (room .entry)) ⌝ }
-{
-    match takes {
-        Takes::Nothing => bytes::delivered(room, 0),
-        Takes::Buffer(n) => bytes::delivered(room, n),
-        Takes::Data(_) => bytes::delivered(room, 0),
-    }
-}
-
-pub fn data(takes: Takes, room: &[u8]) -> &[u8]
-    ensures { λ r. ⌜ now r ≡ dataOf takes (now (room .entry)) ⌝ }
-{
-    match takes {
-        Takes::Nothing => bytes::delivered(room, 0),
-        Takes::Buffer(_) => bytes::delivered(room, 0),
-        Takes::Data(n) => bytes::delivered(room, n),
-    }
-}
-
-// A room that is too short keeps every byte.
-fn fill(room: &mut [u8], n: usize)
-    ensures { λ _. ⌜ now (room .exit) ≡ filledOf n (now (room .entry)) ⌝ }
-{
-    if room.len() < n {
-        return;
-    }
-    let mut i = 0;
-    while i < n {
-        room[i] = FILL;
-        i += 1;
-    }
-}
-
-// Lays what the line of a call lends into the room.
-fn lay(takes: Takes, line: &[u8], room: &mut [u8])
-    ensures { λ _. ⌜ now (room .exit) ≡ laidOf takes (now (line .entry)) (now (room .entry)) ⌝ }
-{
-    match takes {
-        Takes::Nothing => {}
-        Takes::Buffer(n) => {
-            fill(room, n);
-        }
-        Takes::Data(_) => {
-            word::decode(word::behind(word::last(line), 1), room);
-        }
-    }
-}
+ghost use Rattle.trace_words.specs.Loan.{laidOf};
+ghost use Rattle.nor_words.specs.Lent.{begunOver, noneOver, bufferOver, dataOver, answeredOver};
 
 // Lays what the call lends into the room, and hands the call to the driver.
 pub fn begin(
@@ -77,8 +25,13 @@ pub fn begin(
 ) -> Stepped
     ensures { λ r. ⌜ movedTo r (now (scratch .entry)) (now (room .exit)) ≡ begunOver flash call takes (now (scratch .entry)) (laidOf takes (now (line .entry)) (now (room .entry))) ⌝ }
 {
-    lay(takes, line, room);
-    flash.begin(call, scratch, buffer(takes, room), data(takes, room))
+    loan::lay(takes, line, room);
+    flash.begin(
+        call,
+        scratch,
+        loan::buffer(takes, room),
+        loan::data(takes, room),
+    )
 }
 
 // ---- a reply to the action that is out

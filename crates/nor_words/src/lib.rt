@@ -3,4 +3,3 @@ pub mod call;
 pub mod end;
 pub mod heard;
 pub mod lent;
-pub mod print;

@@ -1,3 +1,3 @@
-// Calls with scripted replies, read from a text, and the trace that is printed of them.
-pub mod nor_case;
-pub mod nor_turn;
+// The trace of a case as a function of C, for each driver.
+pub mod nand;
+pub mod nor;

@@ -23,7 +23,7 @@ same-length c = search needs
 
 returns : tie.Need-returns
 unfolding givingOf
-returns c = simp (c .traced-at .ensures, c .before .in-mode .ensures, c .before .before .given-mode .ensures, ← c .before .before .before .before .before .given-lines .ensures, ← c .before .before .before .before .before .before .before .counted .ensures)
+returns c = simp (c .traced-at .ensures, c .before .in-mode .ensures, c .before .before .given-mode .ensures, c .before .before .before .before .before .given-lines .ensures, c .before .before .before .before .before .before .before .counted .ensures)
 
 pub giving-spec : {M : Type 1} → statement M
 giving-spec =

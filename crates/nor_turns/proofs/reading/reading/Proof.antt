@@ -1,4 +1,4 @@
-use Rattle.nor_turns.proofs.Others.{no-call}
+use Rattle.trace_words.proofs.Others.{no-call}
 use Rattle.nor_turns.specs.Reading.{readingOf}
 use borrow.Author.Needs.{needs}
 use Rattle.nor_turns.proofs.reading.reading.Statement.{statement}
@@ -26,14 +26,8 @@ returns c = simp (c .before .before .before .before .before .before .before .enu
 next-line-requires : tie.Need-next-line-requires
 next-line-requires c κs = search needs
 
-place-of-requires : tie.Need-place-of-requires
-place-of-requires c κs = search needs
-
-between-requires : tie.Need-between-requires
-between-requires c κs = search needs
-
-placed-requires : tie.Need-placed-requires
-placed-requires c κs = search needs
+taken-requires : tie.Need-taken-requires
+taken-requires c κs = search needs
 
 traced-at-requires : tie.Need-traced-at-requires
 traced-at-requires c κs = search needs
@@ -41,9 +35,9 @@ traced-at-requires c κs = search needs
 returns-2 : tie.Need-returns-2
 unfolding readingOf
 returns-2 c =
-    let line = c .before .before .before .before .before .before in
-    rw (← line .line-of .ensures, no-call (line .line-of .result) (c .before .before .before .before .before .match .keys2))
-    (simp (c .traced-at .ensures, c .before .placed .ensures, c .before .before .between .ensures, c .before .before .before .place-of .ensures, c .before .before .before .before .next-line .ensures))
+    let line = c .before .before .before .before in
+    rw (← line .line-of .ensures, no-call (line .line-of .result) (c .before .before .before .match .keys2))
+    (simp (c .traced-at .ensures, c .before .taken .ensures, c .before .before .next-line .ensures))
 
 pub reading-spec : {M : Type 1} → statement M
 reading-spec =
@@ -56,8 +50,6 @@ reading-spec =
     same-length-2
     returns
     next-line-requires
-    place-of-requires
-    between-requires
-    placed-requires
+    taken-requires
     traced-at-requires
     returns-2)

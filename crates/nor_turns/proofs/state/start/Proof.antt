@@ -11,13 +11,22 @@ refused-requires c κs = search needs
 single-requires : tie.Need-single-requires
 single-requires c κs = search needs
 
+start-requires : tie.Need-start-requires
+start-requires c κs = search needs
+
 trace-of-requires : tie.Need-trace-of-requires
 trace-of-requires c κs = search needs
 
 returns : tie.Need-returns
-returns c = simp (c .trace-of .ensures, c .before .single .ensures, c .before .before .refused .ensures, c .before .before .before .not-built .ensures)
+returns c = simp (c .trace-of .ensures, c .before .start .ensures, c .before .before .single .ensures, c .before .before .before .refused .ensures, c .before .before .before .before .not-built .ensures)
 
 pub start-spec : {M : Type 1} → statement M
 start-spec =
     tie.close
-    (tie.spec not-built-requires refused-requires single-requires trace-of-requires returns)
+    (tie.spec
+    not-built-requires
+    refused-requires
+    single-requires
+    start-requires
+    trace-of-requires
+    returns)

@@ -6,8 +6,8 @@ use lib.ListN.{length, drop}
 use borrow.Author.Needs.{needs}
 use Rattle.lines.specs.Text.{appended, putOf, textOf}
 use Rattle.nor_answers.specs.Answer.{answerValues}
-use Rattle.nor_words.specs.Print.{fieldsOf}
-use Rattle.nor_words.proofs.Values.{no-values, values-text, next-field, no-field-left}
+use Rattle.trace_words.specs.Print.{fieldsOf}
+use Rattle.trace_words.proofs.Values.{no-values, values-text, next-field, no-field-left}
 use Rattle.nor_words.proofs.end.answer_values.Statement.{statement}
 use Rattle.nor_words.proofs.end.answer_values.Tie as tie
 

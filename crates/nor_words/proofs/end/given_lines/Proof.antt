@@ -1,5 +1,6 @@
 use mathlib.Core.Path.{ap, _∙_}
-use Rattle.nor_words.specs.End.{countLine, givenLines}
+use Rattle.trace_words.specs.Print.{countLine}
+use Rattle.nor_words.specs.End.{givenLines}
 use Rattle.lines.specs.Text.{appended}
 use borrow.Author.Needs.{needs}
 use Rattle.nor_words.proofs.Given.{end-lines}

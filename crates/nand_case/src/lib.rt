@@ -1,0 +1,3 @@
+// NAND calls with scripted replies, read from a text, and the trace that is printed of them.
+pub mod case;
+pub mod turn;

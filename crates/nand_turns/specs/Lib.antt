@@ -1,0 +1,4 @@
+pub mod State
+pub mod Setting
+pub mod Reading
+pub mod Giving

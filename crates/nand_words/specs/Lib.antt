@@ -1,0 +1,4 @@
+pub mod Call
+pub mod Lent
+pub mod End
+pub mod Heard

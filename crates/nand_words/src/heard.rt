@@ -1,0 +1,37 @@
+// A line in the NAND's words, and what it says where a reply is awaited.
+use crate::call;
+use crate::call::Asked;
+use case_text::line;
+use case_text::line::Line;
+use spi_nand::config::SpiNandConfig;
+use trace_words::heard;
+use trace_words::heard::Heard;
+ghost use mathlib.Core.Path.{_≡_};
+ghost use Rattle.nand_words.specs.Heard.{lineOf, callHeard, heardOf};
+
+// The line that begins at a place.
+pub fn line_of(text: &[u8], at: usize) -> Line
+    ensures { λ r. ⌜ r ≡ lineOf (now (text .entry)) at ⌝ }
+{
+    line::read_at(text, at, b"geometry")
+}
+
+// A call: no reply is left, unless the line is bad.
+fn call_heard(line: &[u8], config: SpiNandConfig, room_len: usize) -> Heard
+    ensures { λ r. ⌜ r ≡ callHeard (now (line .entry)) config «room_len» ⌝ }
+{
+    match call::asked_by(line, config, room_len) {
+        Asked::Begin { call: _, takes: _ } => Heard::Spent,
+        Asked::Bad => Heard::Bad,
+    }
+}
+
+pub fn heard_at(text: &[u8], at: usize, config: SpiNandConfig, room_len: usize) -> Heard
+    ensures { λ r. ⌜ r ≡ heardOf (now (text .entry)) at config «room_len» ⌝ }
+{
+    let line = line_of(text, at);
+    if let Line::Call = line {
+        return call_heard(line::line_at(text, at), config, room_len);
+    }
+    heard::heard_in(line)
+}

@@ -1,3 +1,0 @@
-pub mod Others
-pub mod Budget
-pub mod Turns

@@ -1,2 +1,0 @@
-pub mod NorTurn
-pub mod NorCase

@@ -1,0 +1,4 @@
+pub mod Place
+pub mod Between
+pub mod Show
+pub mod Budget

@@ -1,0 +1,5 @@
+pub mod Values
+pub mod Pieces
+pub mod Filled
+pub mod Within
+pub mod Others

@@ -1,0 +1,4 @@
+pub mod Print
+pub mod Request
+pub mod Loan
+pub mod Heard
