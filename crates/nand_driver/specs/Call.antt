@@ -17,8 +17,8 @@ use Rattle.nand_phases.specs.declared.phase.Phase.{Phase}
 use Rattle.nand_phases.specs.declared.setup.Setup.{Setup}
 use Rattle.nand_steps.specs.Go.{goTo}
 use Rattle.nand_steps.specs.declared.then.Then.{Then}
-use Rattle.nand_next.specs.Opening.{openingOf}
-use Rattle.nand_next.specs.declared.opening.Opening.{Opening}
+use Rattle.nand_opening.specs.Opening.{openingOf}
+use Rattle.nand_opening.specs.declared.opening.Opening.{Opening}
 use Rattle.nand_driver.specs.Step.{flashOf, refusedOf, settledOf}
 use Rattle.nand_driver.specs.declared.state.Given.{Given}
 use Rattle.nand_driver.specs.declared.state.Running.{Running}
@@ -40,13 +40,16 @@ freshSetup config = record { config = config; geometry = givenGeometry config; i
 abbrev pub notBuilt : SpiNandFlash
 notBuilt = flashOf (freshSetup singleConfig) false 0 Running.Idle
 
+-- `cs.set_high()`, with which a construction begins
+abbrev pub raisedOf : SpiNandConfig → Stepped
+raisedOf config =
+    settledOf (flashOf (freshSetup config) false 0 Running.Idle) Takes.Nothing (goTo (freshSetup config) Transfer.Raise Phase.Raised)
+
 -- a construction may begin whenever no call is running; from its first action on the driver is not built
 unfoldable pub constructedOf : SpiNandFlash → SpiNandConfig → ℕ → Stepped
 constructedOf flash config scratch =
     pick (ltb scratch scratchLeast) (refusedOf flash FlashError.Misfit)
-    (pick (inBounds (givenGeometry config))
-    (settledOf (flashOf (freshSetup config) false 0 Running.Idle) Takes.Nothing (goTo (freshSetup config) Transfer.Raise Phase.Raised))
-    (refusedOf flash FlashError.InvalidGeometry))
+    (pick (inBounds (givenGeometry config)) (raisedOf config) (refusedOf flash FlashError.InvalidGeometry))
 
 -- info, config, geometry: they take no scratch and change nothing
 unfoldable pub toldOf : SpiNandFlash → Answer → Stepped

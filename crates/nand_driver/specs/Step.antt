@@ -50,12 +50,15 @@ endedOf setup delivered answer = record { flash = flashOf setup true delivered R
 abbrev pub failedOf : SpiNandFlash → FlashError → Stepped
 failedOf flash error = record { flash = flashOf (flash .setup) (flash .built) (flash .delivered) Running.Idle; given = Given.Failed error }
 
+-- the driver with a transfer out
+abbrev pub busyOf : Setup → Bool → ℕ → Phase → Frame → Takes → SpiNandFlash
+busyOf setup built delivered phase frame takes =
+    flashOf setup built delivered (Running.Busy (record { phase = phase; frame = frame; takes = takes }))
+
 -- gives out the first action of a transfer
 abbrev pub startOf : SpiNandFlash → Takes → Setup → Transfer → Phase → Stepped
 startOf flash takes setup transfer phase =
-    startedOf
-    (flashOf setup (flash .built) (flash .delivered) (Running.Busy (record { phase = phase; frame = firstOf transfer; takes = takes })))
-    (actionOf (firstOf transfer))
+    startedOf (busyOf setup (flash .built) (flash .delivered) phase (firstOf transfer) takes) (actionOf (firstOf transfer))
 
 -- goes on with the next transfer, or ends the call
 unfoldable pub settledOf : SpiNandFlash → Takes → Then → Stepped
@@ -66,9 +69,7 @@ settledOf flash takes (Then.Fail error) = failedOf flash error
 -- another action of the transfer that is out
 abbrev pub gaveOf : SpiNandFlash → Job → Frame → ℕ → Action → Stepped
 gaveOf flash job next delivered action =
-    startedOf
-    (flashOf (flash .setup) (flash .built) delivered (Running.Busy (record { phase = job .phase; frame = next; takes = job .takes })))
-    action
+    startedOf (busyOf (flash .setup) (flash .built) delivered (job .phase) next (job .takes)) action
 
 -- the transfer that was out is over
 abbrev pub overOf : SpiNandFlash → Job → Outcome → Stepped

@@ -5,8 +5,8 @@ use crate::state::SpiNandFlash;
 use crate::state::Stepped;
 use crate::step;
 use nand_answers::answer::Answer;
-use nand_next::opening;
-use nand_next::opening::Opening;
+use nand_opening::opening;
+use nand_opening::opening::Opening;
 use nand_phases::call::Call;
 use nand_phases::phase::Phase;
 use nand_phases::setup::Setup;
@@ -22,7 +22,7 @@ use spi_nand::config::NandInit;
 use spi_nand::config::SpiNandConfig;
 ghost use mathlib.Core.Path.{_≡_};
 ghost use lib.ListN.{length};
-ghost use Rattle.nand_driver.specs.Call.{notBuilt, givenGeometry, freshSetup, constructedOf, toldOf, freedOf, openedOf, begunOf, idleOf, beginOf};
+ghost use Rattle.nand_driver.specs.Call.{notBuilt, givenGeometry, freshSetup, raisedOf, constructedOf, toldOf, freedOf, openedOf, begunOf, idleOf, beginOf};
 
 impl SpiNandFlash {
     // A driver before any construction.
@@ -56,6 +56,18 @@ fn fresh(config: SpiNandConfig) -> Setup
     }
 }
 
+// Select high, with which a construction begins.
+fn raise(config: SpiNandConfig) -> Stepped
+    ensures { λ r. ⌜ r ≡ raisedOf config ⌝ }
+{
+    let setup = fresh(config);
+    step::settle(
+        step::flash_of(setup, false, 0, Running::Idle),
+        Takes::Nothing,
+        go::go(setup, Transfer::Raise, Phase::Raised),
+    )
+}
+
 fn construct(flash: SpiNandFlash, config: SpiNandConfig, scratch_len: usize) -> Stepped
     ensures { λ r. ⌜ r ≡ constructedOf flash config «scratch_len» ⌝ }
 {
@@ -63,12 +75,7 @@ fn construct(flash: SpiNandFlash, config: SpiNandConfig, scratch_len: usize) -> 
         return step::refused(flash, FlashError::Misfit);
     }
     if given_geometry(config).in_bounds() {
-        let setup = fresh(config);
-        return step::settle(
-            step::flash_of(setup, false, 0, Running::Idle),
-            Takes::Nothing,
-            go::go(setup, Transfer::Raise, Phase::Raised),
-        );
+        return raise(config);
     }
     step::refused(flash, FlashError::InvalidGeometry)
 }

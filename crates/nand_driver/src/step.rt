@@ -22,7 +22,7 @@ use spi_flash::loan;
 use spi_flash::loan::Takes;
 ghost use mathlib.Core.Path.{_≡_};
 ghost use lib.ListN.{length};
-ghost use Rattle.nand_driver.specs.Step.{refusedOf, flashOf, startedOf, endedOf, failedOf, startOf, settledOf, gaveOf, overOf, movedTo, proceedOf, stepOf, deliveredPart};
+ghost use Rattle.nand_driver.specs.Step.{refusedOf, flashOf, startedOf, endedOf, failedOf, busyOf, startOf, settledOf, gaveOf, overOf, movedTo, proceedOf, stepOf, deliveredPart};
 
 // The state unchanged, and why.
 pub fn refused(flash: SpiNandFlash, error: FlashError) -> Stepped
@@ -73,6 +73,25 @@ fn failed(flash: SpiNandFlash, error: FlashError) -> Stepped
     }
 }
 
+// The driver with a transfer out.
+fn busy(
+    setup: Setup,
+    built: bool,
+    delivered: usize,
+    phase: Phase,
+    frame: Frame,
+    takes: Takes,
+) -> SpiNandFlash
+    ensures { λ r. ⌜ r ≡ busyOf setup built delivered phase frame takes ⌝ }
+{
+    let job = Job {
+        phase: phase,
+        frame: frame,
+        takes: takes,
+    };
+    flash_of(setup, built, delivered, Running::Busy(job))
+}
+
 // Gives out the first action of a transfer.
 fn start(
     flash: SpiNandFlash,
@@ -84,15 +103,9 @@ fn start(
     ensures { λ r. ⌜ r ≡ startOf flash takes setup transfer phase ⌝ }
 {
     let first = frame::first(transfer);
-    let action = frame::pending(first);
-    let job = Job {
-        phase: phase,
-        frame: first,
-        takes: takes,
-    };
     acting(
-        flash_of(setup, flash.built, flash.delivered, Running::Busy(job)),
-        action,
+        busy(setup, flash.built, flash.delivered, phase, first, takes),
+        frame::pending(first),
     )
 }
 
@@ -118,13 +131,8 @@ fn gave(flash: SpiNandFlash, job: Job, next: Frame, delivered: usize, action: Ac
     let setup = flash.setup;
     let phase = job.phase;
     let takes = job.takes;
-    let on = Job {
-        phase: phase,
-        frame: next,
-        takes: takes,
-    };
     acting(
-        flash_of(setup, flash.built, delivered, Running::Busy(on)),
+        busy(setup, flash.built, delivered, phase, next, takes),
         action,
     )
 }

@@ -1,3 +1,2 @@
 pub mod Wait
 pub mod Next
-pub mod Opening

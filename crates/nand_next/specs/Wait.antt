@@ -14,7 +14,7 @@ use Rattle.nand_phases.specs.declared.phase.ResetFor.{ResetFor}
 use Rattle.nand_phases.specs.declared.phase.Task.{Task}
 use Rattle.nand_phases.specs.declared.setup.Setup.{Setup}
 use Rattle.nand_steps.specs.Go.{goTo, done, ask, askId, look}
-use Rattle.nand_steps.specs.Page.{loadedThen}
+use Rattle.nand_pages.specs.Page.{loadedThen}
 use Rattle.nand_steps.specs.Register.{writtenThen}
 use Rattle.nand_steps.specs.declared.then.Then.{Then}
 

@@ -1,4 +1,3 @@
-// The calls of SpiNandFlash (nand/driver.rs), cut where they use the bus: how each begins, and what follows each transfer.
+// What follows each transfer of a call of SpiNandFlash (nand/driver.rs).
 pub mod next;
-pub mod opening;
 pub mod wait;

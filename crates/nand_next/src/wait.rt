@@ -1,4 +1,5 @@
 // wait_ready: the pauses and looks behind a command, and what they are for.
+use nand_pages::page;
 use nand_phases::phase::Asked;
 use nand_phases::phase::Phase;
 use nand_phases::phase::ResetFor;
@@ -6,7 +7,6 @@ use nand_phases::phase::Task;
 use nand_phases::setup::Setup;
 use nand_phases::transfer;
 use nand_steps::go;
-use nand_steps::page;
 use nand_steps::register;
 use nand_steps::then::Then;
 use qspi::transfer::Transfer;

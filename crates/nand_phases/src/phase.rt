@@ -1,6 +1,8 @@
 // Where a call stands: which of its transfers is out, and what that is for.
 use spi_nand::status::Configuration;
 use spi_nand::status::Protection;
+ghost use mathlib.Core.Path.{_≡_};
+ghost use Rattle.nand_phases.specs.Verdict.{asksVerdict};
 
 // A call of its own, or a part of bring_up.
 pub enum Within {
@@ -51,6 +53,25 @@ pub enum LoadFor {
         len: usize,
         done: usize,
     },
+}
+
+impl LoadFor {
+    // is_bad_block takes a page whatever its verdict.
+    pub fn asks_verdict(self) -> bool
+        ensures { λ r. ⌜ r ≡ asksVerdict self ⌝ }
+    {
+        match self {
+            LoadFor::PageRead => true,
+            LoadFor::ReadPage => true,
+            LoadFor::Verify => true,
+            LoadFor::Marker(_) => false,
+            LoadFor::Read {
+                offset: _,
+                len: _,
+                done: _,
+            } => true,
+        }
+    }
 }
 
 // What program_execute is for: a page, or the block that is marked.

@@ -20,8 +20,8 @@ use Rattle.flash_runs.proofs.Supplies.{viewOf, Alike, Is}
 use Rattle.spi_nand.specs.Config.{inBounds}
 use Rattle.spi_nand.specs.declared.config.SpiNandConfig.{SpiNandConfig}
 use Rattle.nand_next.specs.Next.{nextOf}
-use Rattle.nand_next.specs.Opening.{openingOf}
-use Rattle.nand_next.specs.declared.opening.Opening.{Opening}
+use Rattle.nand_opening.specs.Opening.{openingOf}
+use Rattle.nand_opening.specs.declared.opening.Opening.{Opening}
 use Rattle.nand_phases.specs.declared.call.Call.{Call}
 use Rattle.nand_steps.specs.declared.then.Then.{Then}
 use Rattle.nand_answers.specs.declared.answer.Answer.{Answer}

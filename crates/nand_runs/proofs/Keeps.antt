@@ -38,10 +38,11 @@ use Rattle.nand_phases.specs.declared.phase.Task.{Task}
 use Rattle.nand_phases.specs.declared.phase.Within.{Within}
 use Rattle.nand_phases.specs.declared.setup.Setup.{Setup}
 use Rattle.nand_steps.specs.Register.{idOf, geometryAt, geometryFor, wantedFor, identifiedThen, configuredThen, configureThen, checkConfiguration, unprotectedThen, unprotectThen, disableQuad, quadDisabled, writtenThen}
-use Rattle.nand_steps.specs.Cache.{readCacheThen, pieceThen, comparedThen, loadProgramThen, payloadLength}
-use Rattle.nand_steps.specs.Page.{uncorrectable, pageReadThen, isBadThen, acceptedThen, asksVerdict, loadedThen, judgedThen, programThen, afterProgram, programmedThen, readPageThen, writePageThen}
-use Rattle.nand_steps.specs.Read.{readFrom, readThen}
-use Rattle.nand_steps.specs.Block.{isBad, eraseThen, afterErase, erasedThen, markerThen, fillFrom}
+use Rattle.nand_pages.specs.Cache.{readCacheThen, pieceThen, comparedThen, loadProgramThen, payloadLength}
+use Rattle.nand_phases.specs.Verdict.{asksVerdict}
+use Rattle.nand_pages.specs.Page.{uncorrectable, pageReadThen, isBadThen, acceptedThen, loadedThen, judgedThen, programThen, afterProgram, programmedThen, readPageThen, writePageThen}
+use Rattle.nand_pages.specs.Read.{readFrom, readThen}
+use Rattle.nand_pages.specs.Block.{isBad, eraseThen, afterErase, erasedThen, markerThen, fillFrom}
 use Rattle.nand_steps.specs.declared.then.Then.{Then}
 use Rattle.nand_next.specs.Wait.{resetThen, resumeTask, waitThen}
 use Rattle.nand_next.specs.Next.{enabledThen, latchedThen, identifyThen, answeredThen, afterPhase, nextOf}

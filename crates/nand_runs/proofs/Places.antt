@@ -12,8 +12,8 @@ use Rattle.nand_phases.specs.declared.phase.Phase.{Phase}
 use Rattle.nand_phases.specs.declared.setup.Setup.{Setup}
 use Rattle.nand_steps.specs.declared.then.Then.{Then}
 use Rattle.nand_next.specs.Next.{nextOf}
-use Rattle.nand_next.specs.Opening.{openingOf}
-use Rattle.nand_next.specs.declared.opening.Opening.{Opening}
+use Rattle.nand_opening.specs.Opening.{openingOf}
+use Rattle.nand_opening.specs.declared.opening.Opening.{Opening}
 use Rattle.nand_driver.specs.Call.{freshSetup}
 use Rattle.nand_rust.specs.Program.{Left}
 

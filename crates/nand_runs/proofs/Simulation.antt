@@ -45,10 +45,10 @@ use Rattle.nand_phases.specs.declared.phase.Within.{Within}
 use Rattle.nand_phases.specs.declared.setup.Setup.{Setup}
 use Rattle.nand_steps.specs.Register.{idOf, geometryFor, wantedFor, withQuad, identifiedThen, configuredThen, configureThen, checkConfiguration, unprotectedThen, unprotectThen, disableQuad, quadDisabled, writtenThen}
 use Rattle.nand_steps.specs.Go.{send, enable}
-use Rattle.nand_steps.specs.Cache.{within, readCacheThen, pieceThen, comparedThen, loadProgramThen}
-use Rattle.nand_steps.specs.Page.{loadThen, pageReadThen, isBadThen, acceptedThen, loadedThen, judgedThen, programThen, afterProgram, programmedThen}
-use Rattle.nand_steps.specs.Read.{readFrom}
-use Rattle.nand_steps.specs.Block.{eraseThen, afterErase, erasedThen, markerThen, fillFrom}
+use Rattle.nand_pages.specs.Cache.{within, readCacheThen, pieceThen, comparedThen, loadProgramThen}
+use Rattle.nand_pages.specs.Page.{loadThen, pageReadThen, isBadThen, acceptedThen, loadedThen, judgedThen, programThen, afterProgram, programmedThen}
+use Rattle.nand_pages.specs.Read.{readFrom}
+use Rattle.nand_pages.specs.Block.{eraseThen, afterErase, erasedThen, markerThen, fillFrom}
 use Rattle.nand_steps.specs.declared.then.Then.{Then}
 use Rattle.nand_next.specs.Wait.{resetThen, resumeTask, waitThen}
 use Rattle.nand_next.specs.Next.{enabledThen, latchedThen, identifyThen, answeredThen, afterPhase, nextOf}

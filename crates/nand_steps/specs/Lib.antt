@@ -1,6 +1,2 @@
 pub mod Go
 pub mod Register
-pub mod Cache
-pub mod Page
-pub mod Read
-pub mod Block

@@ -21,25 +21,16 @@ given-geometry-requires c κs = search needs
 in-bounds-requires : tie.Need-in-bounds-requires
 in-bounds-requires c κs = search needs
 
-fresh-requires : tie.Need-fresh-requires
-fresh-requires c κs = search needs
-
-flash-of-requires : tie.Need-flash-of-requires
-flash-of-requires c κs = search needs
-
-go-requires : tie.Need-go-requires
-go-requires c κs = search needs
-
-settle-requires : tie.Need-settle-requires
-settle-requires c κs = search needs
+raise-requires : tie.Need-raise-requires
+raise-requires c κs = search needs
 
 returns-2 : tie.Need-returns-2
 unfolding constructedOf
 returns-2 c =
-    let h0 = c .before .before .before .before .before .before .before .if1 .left in
-    let config = c .before .before .before .before .before .before .before .before .args .config in
-    let inside : inBounds (givenGeometry config) ≡ true = simp (← c .before .before .before .before .before .before .given-geometry .ensures, ← c .before .before .before .before .before .in-bounds .ensures) (c .before .before .before .before .if2 .taken) in
-    simp (inside, ← c .settle .ensures, ← c .before .go .ensures, ← c .before .before .flash-of .ensures, ← c .before .before .before .fresh .ensures, tests)
+    let h0 = c .before .before .before .before .if1 .left in
+    let config = c .before .before .before .before .before .args .config in
+    let inside : inBounds (givenGeometry config) ≡ true = simp (← c .before .before .before .given-geometry .ensures, ← c .before .before .in-bounds .ensures) (c .before .if2 .taken) in
+    simp (inside, ← c .raise .ensures, tests)
 
 refused-requires-2 : tie.Need-refused-requires-2
 refused-requires-2 c κs = search needs
@@ -57,10 +48,7 @@ construct-spec =
     returns
     given-geometry-requires
     in-bounds-requires
-    fresh-requires
-    flash-of-requires
-    go-requires
-    settle-requires
+    raise-requires
     returns-2
     refused-requires-2
     returns-3)

@@ -1,0 +1,2 @@
+// How each call of SpiNandFlash (nand/driver.rs) begins.
+pub mod opening;

@@ -1,0 +1,4 @@
+pub mod Cache
+pub mod Page
+pub mod Read
+pub mod Block
