@@ -1,8 +1,8 @@
 // Any turn of a NAND's trace; here those that answer the action that is out.
 use case_text::line;
 use case_text::word;
+use nand_driver::settle;
 use nand_driver::state::Given;
-use nand_driver::step;
 use nand_turns::giving;
 use nand_turns::reading;
 use nand_turns::state;
@@ -51,7 +51,7 @@ fn stopped(trace: Trace, error: FlashError, next: usize) -> Trace
 {
     let stepped = trace.stepped;
     let flash = stepped.flash;
-    state::gave(trace, step::refused(flash, error), next)
+    state::gave(trace, settle::refused(flash, error), next)
 }
 
 // A reply of more bytes than there is room for fits no action.

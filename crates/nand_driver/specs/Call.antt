@@ -19,7 +19,7 @@ use Rattle.nand_steps.specs.Go.{goTo}
 use Rattle.nand_steps.specs.declared.then.Then.{Then}
 use Rattle.nand_opening.specs.Opening.{openingOf}
 use Rattle.nand_opening.specs.declared.opening.Opening.{Opening}
-use Rattle.nand_driver.specs.Step.{flashOf, refusedOf, settledOf}
+use Rattle.nand_driver.specs.Settle.{flashOf, refusedOf, settledOf}
 use Rattle.nand_driver.specs.declared.state.Given.{Given}
 use Rattle.nand_driver.specs.declared.state.Running.{Running}
 use Rattle.nand_driver.specs.declared.state.SpiNandFlash.{SpiNandFlash}

@@ -1,9 +1,9 @@
 // How a call begins, and how it is turned away.
+use crate::settle;
 use crate::state::Given;
 use crate::state::Running;
 use crate::state::SpiNandFlash;
 use crate::state::Stepped;
-use crate::step;
 use nand_answers::answer::Answer;
 use nand_opening::opening;
 use nand_opening::opening::Opening;
@@ -29,7 +29,7 @@ impl SpiNandFlash {
     pub fn not_built() -> SpiNandFlash
         ensures { λ r. ⌜ r ≡ notBuilt ⌝ }
     {
-        step::flash_of(fresh(SpiNandConfig::single()), false, 0, Running::Idle)
+        settle::flash_of(fresh(SpiNandConfig::single()), false, 0, Running::Idle)
     }
 }
 
@@ -61,8 +61,8 @@ fn raise(config: SpiNandConfig) -> Stepped
     ensures { λ r. ⌜ r ≡ raisedOf config ⌝ }
 {
     let setup = fresh(config);
-    step::settle(
-        step::flash_of(setup, false, 0, Running::Idle),
+    settle::settle(
+        settle::flash_of(setup, false, 0, Running::Idle),
         Takes::Nothing,
         go::go(setup, Transfer::Raise, Phase::Raised),
     )
@@ -72,12 +72,12 @@ fn construct(flash: SpiNandFlash, config: SpiNandConfig, scratch_len: usize) -> 
     ensures { λ r. ⌜ r ≡ constructedOf flash config «scratch_len» ⌝ }
 {
     if scratch_len < SCRATCH_LEN {
-        return step::refused(flash, FlashError::Misfit);
+        return settle::refused(flash, FlashError::Misfit);
     }
     if given_geometry(config).in_bounds() {
         return raise(config);
     }
-    step::refused(flash, FlashError::InvalidGeometry)
+    settle::refused(flash, FlashError::InvalidGeometry)
 }
 
 // ---- accessors
@@ -91,7 +91,7 @@ fn told(flash: SpiNandFlash, answer: Answer) -> Stepped
             given: Given::Ended(answer),
         };
     }
-    step::refused(flash, FlashError::OutOfTurn)
+    settle::refused(flash, FlashError::OutOfTurn)
 }
 
 // The Rust gives its bus back, and nothing can be called on what it was.
@@ -101,11 +101,11 @@ fn freed(flash: SpiNandFlash) -> Stepped
     if flash.built {
         let setup = flash.setup;
         return Stepped {
-            flash: step::flash_of(setup, false, flash.delivered, Running::Idle),
+            flash: settle::flash_of(setup, false, flash.delivered, Running::Idle),
             given: Given::Ended(Answer::Done),
         };
     }
-    step::refused(flash, FlashError::OutOfTurn)
+    settle::refused(flash, FlashError::OutOfTurn)
 }
 
 // ---- the other calls
@@ -116,10 +116,10 @@ fn opened(flash: SpiNandFlash, takes: Takes, then: Then) -> Stepped
 {
     let setup = flash.setup;
     match then {
-        Then::Fail(error) => return step::refused(flash, error),
+        Then::Fail(error) => return settle::refused(flash, error),
         _ => {
-            return step::settle(
-                step::flash_of(setup, flash.built, 0, Running::Idle),
+            return settle::settle(
+                settle::flash_of(setup, flash.built, 0, Running::Idle),
                 takes,
                 then,
             );
@@ -135,14 +135,14 @@ fn begun(flash: SpiNandFlash, scratch_len: usize, takes: Takes, then: Then) -> S
     let geometry = setup.geometry;
     if flash.built {
         if scratch_len < SCRATCH_LEN {
-            return step::refused(flash, FlashError::Misfit);
+            return settle::refused(flash, FlashError::Misfit);
         }
         if geometry.in_bounds() {
             return opened(flash, takes, then);
         }
-        return step::refused(flash, FlashError::InvalidGeometry);
+        return settle::refused(flash, FlashError::InvalidGeometry);
     }
-    step::refused(flash, FlashError::OutOfTurn)
+    settle::refused(flash, FlashError::OutOfTurn)
 }
 
 // ---- every call
@@ -172,7 +172,7 @@ impl SpiNandFlash {
                     scratch.len(),
                 );
             }
-            Running::Busy(_) => return step::refused(self, FlashError::OutOfTurn),
+            Running::Busy(_) => return settle::refused(self, FlashError::OutOfTurn),
         }
     }
 }

@@ -27,7 +27,8 @@ use Rattle.nand_steps.specs.declared.then.Then.{Then}
 use Rattle.nand_answers.specs.declared.answer.Answer.{Answer}
 use Rattle.nand_phases.specs.declared.phase.Phase.{Phase}
 use Rattle.nand_phases.specs.declared.setup.Setup.{Setup}
-use Rattle.nand_driver.specs.Step.{Moved, movedTo, flashOf, refusedOf, settledOf, exchangedThen, proceedOf, stepAt, stepOf}
+use Rattle.nand_driver.specs.Settle.{flashOf, refusedOf, settledOf}
+use Rattle.nand_reply.specs.Step.{Moved, movedTo, exchangedThen, proceedOf, stepAt, stepOf}
 use Rattle.nand_driver.specs.Call.{givenGeometry, freshSetup, constructedOf, toldOf, freedOf, openedOf, begunOf, idleOf, beginAt as beginsAt, beginOf}
 use Rattle.nand_driver.specs.declared.state.Job.{Job}
 use Rattle.nand_driver.specs.declared.state.Running.{Running}

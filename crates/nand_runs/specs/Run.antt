@@ -16,7 +16,7 @@ use Rattle.nand_answers.specs.declared.answer.Answer.{Answer}
 use Rattle.nand_phases.specs.declared.call.Call.{Call}
 use Rattle.nand_phases.specs.declared.setup.Setup.{Setup}
 use Rattle.nand_driver.specs.Call.{freshSetup, beginOf}
-use Rattle.nand_driver.specs.Step.{Moved, stepOf, deliveredPart}
+use Rattle.nand_reply.specs.Step.{Moved, stepOf, deliveredPart}
 use Rattle.nand_driver.specs.declared.state.Given.{Given}
 use Rattle.nand_driver.specs.declared.state.Running.{Running}
 use Rattle.nand_driver.specs.declared.state.SpiNandFlash.{SpiNandFlash}

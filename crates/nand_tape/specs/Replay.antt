@@ -5,7 +5,8 @@ use Rattle.qspi.specs.Bus.{onBus}
 use Rattle.qspi.specs.Choice.{pick}
 use Rattle.qspi.specs.declared.bus.Reply.{Reply}
 use Rattle.spi_flash.specs.declared.error.FlashError.{FlashError}
-use Rattle.nand_driver.specs.Step.{Moved, movedTo, refusedOf, stepOf}
+use Rattle.nand_driver.specs.Settle.{refusedOf}
+use Rattle.nand_reply.specs.Step.{Moved, movedTo, stepOf}
 use Rattle.nand_driver.specs.Call.{beginOf}
 use Rattle.nand_phases.specs.declared.call.Call.{Call}
 use Rattle.nand_driver.specs.declared.state.Given.{Given}

@@ -13,7 +13,7 @@ use Rattle.trace_words.specs.Loan.{laidOf}
 use Rattle.trace_words.specs.Print.{callLine}
 use Rattle.trace_turns.specs.Between.{betweenAt}
 use Rattle.trace_turns.specs.declared.place.Mode.{Mode}
-use Rattle.nand_driver.specs.Step.{Moved}
+use Rattle.nand_reply.specs.Step.{Moved}
 use Rattle.nand_words.specs.Call.{askedOf}
 use Rattle.nand_words.specs.Heard.{lineOf}
 use Rattle.nand_words.specs.Lent.{begunOver}

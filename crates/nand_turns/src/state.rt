@@ -1,8 +1,8 @@
 // Where a NAND's trace stands.
+use nand_driver::settle;
 use nand_driver::state::Given;
 use nand_driver::state::SpiNandFlash;
 use nand_driver::state::Stepped;
-use nand_driver::step;
 use spi_flash::error::FlashError;
 use spi_flash::loan::Takes;
 use spi_nand::config::SpiNandConfig;
@@ -41,7 +41,7 @@ pub fn start() -> Trace
     ensures { λ r. ⌜ r ≡ startOf ⌝ }
 {
     trace_of(
-        step::refused(SpiNandFlash::not_built(), FlashError::OutOfTurn),
+        settle::refused(SpiNandFlash::not_built(), FlashError::OutOfTurn),
         SpiNandConfig::single(),
         place::start(),
     )

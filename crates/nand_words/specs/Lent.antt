@@ -9,7 +9,8 @@ use Rattle.spi_flash.specs.declared.error.FlashError.{FlashError}
 use Rattle.spi_flash.specs.declared.loan.Takes.{Takes}
 use Rattle.trace_words.specs.Loan.{bufferOf, dataOf}
 use Rattle.nand_driver.specs.Call.{beginOf}
-use Rattle.nand_driver.specs.Step.{Moved, movedTo, refusedOf, stepOf}
+use Rattle.nand_driver.specs.Settle.{refusedOf}
+use Rattle.nand_reply.specs.Step.{Moved, movedTo, stepOf}
 use Rattle.nand_phases.specs.declared.call.Call.{Call}
 use Rattle.nand_driver.specs.declared.state.SpiNandFlash.{SpiNandFlash}
 

@@ -1,8 +1,9 @@
 // The NAND driver's calls and steps, with what a call lends.
+use nand_driver::settle;
 use nand_driver::state::SpiNandFlash;
 use nand_driver::state::Stepped;
-use nand_driver::step;
 use nand_phases::call::Call;
+use nand_reply::step;
 use qspi::bus::Reply;
 use qspi::bytes;
 use spi_flash::error::FlashError;
@@ -10,7 +11,7 @@ use spi_flash::loan::Takes;
 use trace_words::loan;
 ghost use mathlib.Core.List.{[]};
 ghost use mathlib.Core.Path.{_≡_};
-ghost use Rattle.nand_driver.specs.Step.{movedTo};
+ghost use Rattle.nand_reply.specs.Step.{movedTo};
 ghost use Rattle.trace_words.specs.Loan.{laidOf};
 ghost use Rattle.nand_words.specs.Lent.{begunOver, noneOver, bufferOver, dataOver, answeredOver};
 
@@ -59,7 +60,7 @@ fn with_buffer(
     if n <= room.len() {
         return step::step(flash, reply, bytes, scratch, &mut room[..n], &data);
     }
-    step::refused(flash, FlashError::Misfit)
+    settle::refused(flash, FlashError::Misfit)
 }
 
 fn with_data(

@@ -10,7 +10,7 @@ use Rattle.nand_phases.specs.Transfer.{inRange, placeOf, chunkOf}
 use Rattle.nand_pages.specs.Read.{readFrom, readThen}
 use Rattle.nand_opening.specs.Opening.{openingOf}
 use Rattle.nand_driver.specs.Call.{openedOf, begunOf, idleOf, beginOf}
-use Rattle.nand_driver.specs.Step.{settledOf}
+use Rattle.nand_driver.specs.Settle.{settledOf}
 use Rattle.readings.specs.Readings.{ReadingsHold}
 
 pub readings-hold : ReadingsHold

@@ -24,7 +24,7 @@ use Rattle.nand_phases.specs.Transfer.{placeOf, pageAt, columnAt, chunkOf}
 use Rattle.nand_phases.specs.declared.call.Call.{Call as NandCall}
 use Rattle.nand_driver.specs.Answer.{endingNumber}
 use Rattle.nand_driver.specs.Call.{freshSetup as freshNand, beginOf}
-use Rattle.nand_driver.specs.Step.{flashOf}
+use Rattle.nand_driver.specs.Settle.{flashOf}
 use Rattle.nand_driver.specs.declared.state.Given.{Given}
 use Rattle.nand_driver.specs.declared.state.Running.{Running}
 use Rattle.nand_driver.specs.declared.state.SpiNandFlash.{SpiNandFlash}

@@ -7,7 +7,7 @@ use Rattle.nand_driver.specs.Call.{freshCall, openedOf}
 use borrow.Author.Needs.{needs}
 use Rattle.nand_driver.proofs.call.opened.Statement.{statement}
 use Rattle.nand_driver.proofs.call.opened.Tie as tie
-use Rattle.nand_driver.specs.Step.{settledOf}
+use Rattle.nand_driver.specs.Settle.{settledOf}
 use Rattle.nand_driver.specs.declared.state.SpiNandFlash.{SpiNandFlash}
 use Rattle.nand_driver.specs.declared.state.Stepped.{Stepped}
 use Rattle.spi_flash.specs.declared.loan.Takes.{Takes}

@@ -3,7 +3,7 @@ use mathlib.Core.Path.{_∙_, ap}
 use borrow.Author.Needs.{needs}
 use Rattle.nand_phases.specs.declared.setup.Setup.{Setup}
 use Rattle.nand_driver.specs.Call.{freshSetup}
-use Rattle.nand_driver.specs.Step.{flashOf}
+use Rattle.nand_driver.specs.Settle.{flashOf}
 use Rattle.nand_driver.specs.declared.state.Running.{Running}
 use Rattle.nand_driver.proofs.state.SpiNandFlash.not_built.Statement.{statement}
 use Rattle.nand_driver.proofs.state.SpiNandFlash.not_built.Tie as tie

@@ -1,6 +1,6 @@
 use borrow.Author.Needs.{needs}
-use Rattle.nand_driver.proofs.step.gave.Statement.{statement}
-use Rattle.nand_driver.proofs.step.gave.Tie as tie
+use Rattle.nand_reply.proofs.step.gave.Statement.{statement}
+use Rattle.nand_reply.proofs.step.gave.Tie as tie
 
 busy-requires : tie.Need-busy-requires
 busy-requires c κs = search needs

@@ -1,7 +1,7 @@
-use Rattle.nand_driver.specs.Step.{proceedOf}
+use Rattle.nand_reply.specs.Step.{proceedOf}
 use borrow.Author.Needs.{needs}
-use Rattle.nand_driver.proofs.step.proceed.Statement.{statement}
-use Rattle.nand_driver.proofs.step.proceed.Tie as tie
+use Rattle.nand_reply.proofs.step.proceed.Statement.{statement}
+use Rattle.nand_reply.proofs.step.proceed.Tie as tie
 
 delivered-by-requires : tie.Need-delivered-by-requires
 delivered-by-requires c κs = search needs

@@ -1,7 +1,7 @@
-use Rattle.nand_driver.specs.Step.{settledOf}
+use Rattle.nand_driver.specs.Settle.{settledOf}
 use borrow.Author.Needs.{needs}
-use Rattle.nand_driver.proofs.step.settle.Statement.{statement}
-use Rattle.nand_driver.proofs.step.settle.Tie as tie
+use Rattle.nand_driver.proofs.settle.settle.Statement.{statement}
+use Rattle.nand_driver.proofs.settle.settle.Tie as tie
 
 enum-known-then : tie.Need-enum-known-then
 enum-known-then c = search needs

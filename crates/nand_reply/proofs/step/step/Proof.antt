@@ -1,7 +1,7 @@
-use Rattle.nand_driver.specs.Step.{stepOf}
+use Rattle.nand_reply.specs.Step.{stepOf}
 use borrow.Author.Needs.{needs}
-use Rattle.nand_driver.proofs.step.step.Statement.{statement}
-use Rattle.nand_driver.proofs.step.step.Tie as tie
+use Rattle.nand_reply.proofs.step.step.Statement.{statement}
+use Rattle.nand_reply.proofs.step.step.Tie as tie
 
 enum-told : tie.Need-enum-told
 enum-told c = search needs

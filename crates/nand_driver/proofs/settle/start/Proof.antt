@@ -1,6 +1,6 @@
 use borrow.Author.Needs.{needs}
-use Rattle.nand_driver.proofs.step.start.Statement.{statement}
-use Rattle.nand_driver.proofs.step.start.Tie as tie
+use Rattle.nand_driver.proofs.settle.start.Statement.{statement}
+use Rattle.nand_driver.proofs.settle.start.Tie as tie
 
 first-requires : tie.Need-first-requires
 first-requires c κs = search needs

@@ -1,6 +1,6 @@
 use borrow.Author.Needs.{needs}
-use Rattle.nand_driver.proofs.step.over.Statement.{statement}
-use Rattle.nand_driver.proofs.step.over.Tie as tie
+use Rattle.nand_reply.proofs.step.over.Statement.{statement}
+use Rattle.nand_reply.proofs.step.over.Tie as tie
 
 next-requires : tie.Need-next-requires
 next-requires c κs = search needs
