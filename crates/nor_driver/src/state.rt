@@ -1,4 +1,4 @@
-// The driver's state, its calls and what a step gives.
+// The driver's state and what a step gives.
 use frames::frame::Frame;
 use nor_answers::answer::Answer;
 use nor_phases::phase::Phase;
@@ -6,7 +6,6 @@ use nor_phases::setup::Setup;
 use qspi::bus::Action;
 use spi_flash::error::FlashError;
 use spi_flash::loan::Takes;
-use spi_nor::config::SpiNorConfig;
 
 // A call under way.
 pub struct Job {
@@ -27,29 +26,6 @@ pub struct SpiNorFlash {
     // Bytes that the last call begun has put into the caller's buffer.
     pub delivered: usize,
     pub running: Running,
-}
-
-pub enum Call {
-    New,
-    WithConfig(SpiNorConfig),
-    Config,
-    Device,
-    Id,
-    Free,
-    ReadStatus1,
-    ReadStatus2,
-    IsBusy,
-    JedecId,
-    UniqueId,
-    QuadEnabled,
-    EnableQuad,
-    DisableQuad,
-    Read { offset: u32 },
-    Write { offset: u32 },
-    Unprotect,
-    Erase { from: u32, to: u32 },
-    EraseSector { offset: u32 },
-    EraseBlock { offset: u32 },
 }
 
 pub enum Given {

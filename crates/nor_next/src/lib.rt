@@ -1,3 +1,3 @@
-// The calls of SpiNorFlash (nor/driver.rs), cut where they use the bus: what follows each transfer.
+// What follows each transfer of a call of SpiNorFlash (nor/driver.rs).
 pub mod next;
-pub mod then;
+pub mod wait;

@@ -204,35 +204,14 @@ latched-requires c κs = search needs
 enum-known-phase-7 : tie.Need-enum-known-phase-7
 enum-known-phase-7 c = search needs
 
-task-operation-requires : tie.Need-task-operation-requires
-task-operation-requires c κs = search needs
+sent-requires : tie.Need-sent-requires
+sent-requires c κs = search needs
 
-timings-requires : tie.Need-timings-requires
-timings-requires c κs = search needs
-
-begin-requires : tie.Need-begin-requires
-begin-requires c κs = search needs
-
-waited-then-requires : tie.Need-waited-then-requires
-waited-then-requires c κs = search needs
+looked-requires : tie.Need-looked-requires
+looked-requires c κs = search needs
 
 enum-known-phase-8 : tie.Need-enum-known-phase-8
 enum-known-phase-8 c = search needs
-
-task-operation-requires-2 : tie.Need-task-operation-requires-2
-task-operation-requires-2 c κs = search needs
-
-timings-requires-2 : tie.Need-timings-requires-2
-timings-requires-2 c κs = search needs
-
-busy-requires-2 : tie.Need-busy-requires-2
-busy-requires-2 c κs = search needs
-
-after-look-requires : tie.Need-after-look-requires
-after-look-requires c κs = search needs
-
-waited-then-requires-2 : tie.Need-waited-then-requires-2
-waited-then-requires-2 c κs = search needs
 
 enum-known-phase-9 : tie.Need-enum-known-phase-9
 enum-known-phase-9 c = search needs
@@ -346,11 +325,11 @@ returns-26 c = simp (c .before .before .phase6 .given .1, ← c .latched .ensure
 
 returns-27 : tie.Need-returns-27
 unfolding afterPhase
-returns-27 c = simp (c .before .before .before .before .before .phase7 .given .1, ← c .waited-then .ensures, ← c .before .begin .ensures, ← c .before .before .timings .ensures, ← c .before .before .before .task-operation .ensures, ← c .before .before .before .before .before .before .before .byte .ensures)
+returns-27 c = simp (c .before .before .phase7 .given .1, ← c .sent .ensures, ← c .before .before .before .before .byte .ensures)
 
 returns-28 : tie.Need-returns-28
 unfolding afterPhase
-returns-28 c = simp (c .before .before .before .before .before .before .phase8 .given .1, ← c .waited-then2 .ensures, ← c .before .after-look .ensures, ← c .before .before .busy2 .ensures, ← c .before .before .before .timings2 .ensures, ← c .before .before .before .before .task-operation2 .ensures, ← c .before .before .before .before .before .before .before .before .byte .ensures)
+returns-28 c = simp (c .before .before .phase8 .given .1, ← c .looked .ensures, ← c .before .before .before .before .byte .ensures)
 
 returns-29 : tie.Need-returns-29
 unfolding afterPhase
@@ -363,108 +342,101 @@ after-spec =
     byte-requires
     enum-told
     read-id-requires
+    returns
     enum-told-2
     identified-requires
+    returns-2
     enum-told-3
     end-requires
+    returns-3
     enum-told-4
     end-requires-2
+    returns-4
     enum-told-5
     busy-requires
     end-requires-3
+    returns-5
     enum-told-6
     id-of-requires
     end-requires-4
+    returns-6
     enum-told-7
     end-requires-5
+    returns-7
     enum-told-8
     quad-flag-requires
+    returns-8
     enum-told-9
     quad-enabled1-requires
     end-requires-6
+    returns-9
     enum-told-10
     quad-enabled2-requires
     read1-requires
     done-if-requires
+    returns-10
     enum-told-11
     quad-enabled1-requires-2
     read2-requires
     done-if-requires-2
+    returns-11
     enum-told-12
     enabled-requires
+    returns-12
     enum-told-13
     quad-enabled2-requires-2
     read1-requires-2
     done-if-requires-3
+    returns-13
     enum-told-14
     enabled-requires-2
+    returns-14
     enum-told-15
     quad-enabled1-requires-3
     supported-if-requires
+    returns-15
     enum-told-16
     disable-first-requires
+    returns-16
     enum-told-17
     quad-enabled2-requires-3
     supported-if-requires-2
+    returns-17
     enum-told-18
     disable-second-requires
+    returns-18
     enum-told-19
     quad-enabled1-requires-4
     supported-if-requires-3
+    returns-19
     enum-told-20
     read2-requires-2
+    returns-20
     enum-known-phase
     unprotect-first-requires
+    returns-21
     enum-known-phase-2
     end-requires-7
+    returns-22
     enum-known-phase-3
     past-chunk-requires
     read-from-requires
+    returns-23
     enum-known-phase-4
     verified-requires
+    returns-24
     enum-known-phase-5
     read1-requires-3
+    returns-25
     enum-known-phase-6
     latched-requires
+    returns-26
     enum-known-phase-7
-    task-operation-requires
-    timings-requires
-    begin-requires
-    waited-then-requires
+    sent-requires
+    returns-27
     enum-known-phase-8
-    task-operation-requires-2
-    timings-requires-2
-    busy-requires-2
-    after-look-requires
-    waited-then-requires-2
+    looked-requires
+    returns-28
     enum-known-phase-9
     read1-requires-4
-    returns
-    returns-2
-    returns-3
-    returns-4
-    returns-5
-    returns-6
-    returns-7
-    returns-8
-    returns-9
-    returns-10
-    returns-11
-    returns-12
-    returns-13
-    returns-14
-    returns-15
-    returns-16
-    returns-17
-    returns-18
-    returns-19
-    returns-20
-    returns-21
-    returns-22
-    returns-23
-    returns-24
-    returns-25
-    returns-26
-    returns-27
-    returns-28
     returns-29)

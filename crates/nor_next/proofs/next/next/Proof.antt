@@ -22,4 +22,9 @@ returns-2 c = simp (c .before .outcome2 .given .1)
 
 pub next-spec : {M : Type 1} → statement M
 next-spec =
-    tie.close (tie.spec enum-known-outcome after-requires enum-known-outcome-2 returns returns-2)
+    tie.close (tie.spec
+    enum-known-outcome
+    after-requires
+    returns
+    enum-known-outcome-2
+    returns-2)

@@ -1,0 +1,3 @@
+pub mod Go
+pub mod Register
+pub mod Protection
