@@ -40,21 +40,20 @@ fn resume(setup: Setup, task: Task) -> Then
         Task::EnableQuad1(_) => return go::read1(setup, Phase::EnableVerify1),
         Task::DisableQuad2(_) => return go::read2(setup, Phase::DisableVerify2),
         Task::DisableQuad1(_) => return go::read1(setup, Phase::DisableVerify1),
-        Task::Unprotect1 { before, status2 } => return protection::unprotect_second(
-            setup,
-            before,
-            status2,
-        ),
-        Task::Unprotect2 { before, status2: _ } => return go::read1(
-            setup,
-            Phase::UnprotectAfter(before),
-        ),
+        Task::Unprotect1 { before, status2 } => {
+            return protection::unprotect_second(setup, before, status2);
+        }
+        Task::Unprotect2 { before, status2: _ } => {
+            return go::read1(setup, Phase::UnprotectAfter(before));
+        }
         Task::PageProgram { offset, len, done } => return write::verify(setup, offset, len, done),
-        Task::Erase { kind, address, end } => return erase::erase_from(
-            setup,
-            transfer::after_unit(setup.device, kind, address),
-            end,
-        ),
+        Task::Erase { kind, address, end } => {
+            return erase::erase_from(
+                setup,
+                transfer::after_unit(setup.device, kind, address),
+                end,
+            );
+        }
     }
 }
 
@@ -62,21 +61,25 @@ fn waited_then(setup: Setup, task: Task, step: Wait) -> Then
     ensures { λ r. ⌜ r ≡ waitThen setup task step ⌝ }
 {
     match step {
-        Wait::Look => return go::read1(
-            setup,
-            Phase::Looking {
-                task: task,
-                waited: 0,
-            },
-        ),
-        Wait::Pause { us, waited } => return go::go(
-            setup,
-            Transfer::Pause(us),
-            Phase::Pausing {
-                task: task,
-                waited: waited,
-            },
-        ),
+        Wait::Look => {
+            return go::read1(
+                setup,
+                Phase::Looking {
+                    task: task,
+                    waited: 0,
+                },
+            );
+        }
+        Wait::Pause { us, waited } => {
+            return go::go(
+                setup,
+                Transfer::Pause(us),
+                Phase::Pausing {
+                    task: task,
+                    waited: waited,
+                },
+            );
+        }
         Wait::Ready => return resume(setup, task),
         Wait::Timeout => return Then::Fail(FlashError::Timeout),
     }

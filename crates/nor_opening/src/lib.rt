@@ -1,0 +1,2 @@
+// How each call of SpiNorFlash (nor/driver.rs) begins.
+pub mod opening;
