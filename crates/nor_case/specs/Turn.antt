@@ -10,7 +10,8 @@ use Rattle.lines.specs.Text.{Text}
 use Rattle.case_text.specs.Line.{lineAt, nextOf}
 use Rattle.case_text.specs.Number.{bytesOf}
 use Rattle.spi_flash.specs.declared.error.FlashError.{FlashError}
-use Rattle.nor_driver.specs.Step.{Moved, refusedOf}
+use Rattle.nor_reply.specs.Step.{Moved}
+use Rattle.nor_driver.specs.Settle.{refusedOf}
 use Rattle.nor_driver.specs.declared.state.Given.{Given}
 use Rattle.qspi.specs.Bus.{onBus}
 use Rattle.trace_words.specs.declared.heard.Heard.{Heard}

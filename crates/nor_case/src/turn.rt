@@ -1,8 +1,8 @@
 // Any turn of a NOR's trace; here those that answer the action that is out.
 use case_text::line;
 use case_text::word;
+use nor_driver::settle;
 use nor_driver::state::Given;
-use nor_driver::step;
 use nor_turns::giving;
 use nor_turns::reading;
 use nor_turns::state;
@@ -51,7 +51,7 @@ fn stopped(trace: Trace, error: FlashError, next: usize) -> Trace
 {
     let stepped = trace.stepped;
     let flash = stepped.flash;
-    state::gave(trace, step::refused(flash, error), next)
+    state::gave(trace, settle::refused(flash, error), next)
 }
 
 // A reply of more bytes than there is room for fits no action.

@@ -11,14 +11,15 @@ use Rattle.spi_nor.specs.Config.{w25q128jv, inBoundsOf, singleConfig, jedecId}
 use Rattle.spi_nor.specs.declared.config.DeviceSetting.{DeviceSetting}
 use Rattle.spi_nor.specs.declared.config.NorDeviceInfo.{NorDeviceInfo}
 use Rattle.spi_nor.specs.declared.config.SpiNorConfig.{SpiNorConfig}
-use Rattle.nor_next.specs.Next.{goTo, read1Then, read2Then, readIdThen, readUniqueIdThen, readThen, writeThen, eraseThen, eraseOne}
-use Rattle.nor_phases.specs.declared.phase.EraseKind.{EraseKind}
-use Rattle.nor_phases.specs.declared.phase.Phase.{Phase}
 use Rattle.nor_answers.specs.declared.answer.Answer.{Answer}
+use Rattle.nor_phases.specs.declared.call.Call.{Call}
+use Rattle.nor_phases.specs.declared.phase.Phase.{Phase}
 use Rattle.nor_phases.specs.declared.setup.Setup.{Setup}
-use Rattle.nor_next.specs.declared.then.Then.{Then}
-use Rattle.nor_driver.specs.Step.{flashOf, refusedOf, settledOf}
-use Rattle.nor_driver.specs.declared.state.Call.{Call}
+use Rattle.nor_steps.specs.Go.{goTo}
+use Rattle.nor_steps.specs.declared.then.Then.{Then}
+use Rattle.nor_opening.specs.Opening.{openingOf}
+use Rattle.nor_opening.specs.declared.opening.Opening.{Opening}
+use Rattle.nor_driver.specs.Settle.{flashOf, refusedOf, settledOf}
 use Rattle.nor_driver.specs.declared.state.Given.{Given}
 use Rattle.nor_driver.specs.declared.state.Running.{Running}
 use Rattle.nor_driver.specs.declared.state.SpiNorFlash.{SpiNorFlash}
@@ -39,13 +40,16 @@ freshSetup config = record { config = config; device = givenDevice config; id = 
 abbrev pub notBuilt : SpiNorFlash
 notBuilt = flashOf (freshSetup singleConfig) false 0 Running.Idle
 
+-- `cs.set_high()`, with which a construction begins
+abbrev pub raisedOf : SpiNorConfig → Stepped
+raisedOf config =
+    settledOf (flashOf (freshSetup config) false 0 Running.Idle) Takes.Nothing (goTo (freshSetup config) Transfer.Raise Phase.Raised)
+
 -- a construction may begin whenever no call is running; from its first action on the driver is not built
 unfoldable pub constructedOf : SpiNorFlash → SpiNorConfig → ℕ → Stepped
 constructedOf flash config scratch =
     pick (ltb scratch scratchLeast) (refusedOf flash FlashError.Misfit)
-    (pick (inBoundsOf (givenDevice config))
-    (settledOf (flashOf (freshSetup config) false 0 Running.Idle) Takes.Nothing (goTo (freshSetup config) Transfer.Raise Phase.Raised))
-    (refusedOf flash FlashError.InvalidGeometry))
+    (pick (inBoundsOf (givenDevice config)) (raisedOf config) (refusedOf flash FlashError.InvalidGeometry))
 
 -- config, device, id: they take no scratch and change nothing
 unfoldable pub toldOf : SpiNorFlash → Answer → Stepped
@@ -77,56 +81,14 @@ begunOf flash scratch takes then =
 
 -- ---- every call, with the lengths of what is lent: scratch, buffer, data
 
--- the first transfer of a call that takes nothing, or the Rust's own refusal; the other calls have none here
-unfoldable pub openingOf : Setup → Call → Then
-openingOf setup Call.ReadStatus1 = read1Then setup Phase.Status1
-openingOf setup Call.ReadStatus2 = read2Then setup Phase.Status2
-openingOf setup Call.IsBusy = read1Then setup Phase.Busy
-openingOf setup Call.JedecId = readIdThen setup Phase.JedecId
-openingOf setup Call.UniqueId = readUniqueIdThen setup Phase.UniqueId
-openingOf setup Call.QuadEnabled = read2Then setup Phase.QuadEnabled2
-openingOf setup Call.EnableQuad = read2Then setup Phase.EnableCheck2
-openingOf setup Call.DisableQuad = read2Then setup Phase.DisableRead2
-openingOf setup Call.Unprotect = read1Then setup Phase.UnprotectRead1
-openingOf setup (Call.Erase from to) = eraseThen setup from to
-openingOf setup (Call.EraseSector offset) = eraseOne setup EraseKind.Sector offset
-openingOf setup (Call.EraseBlock offset) = eraseOne setup EraseKind.Block offset
-openingOf setup Call.New = Then.Fail FlashError.OutOfTurn
-openingOf setup (Call.WithConfig config) = Then.Fail FlashError.OutOfTurn
-openingOf setup Call.Config = Then.Fail FlashError.OutOfTurn
-openingOf setup Call.Device = Then.Fail FlashError.OutOfTurn
-openingOf setup Call.Id = Then.Fail FlashError.OutOfTurn
-openingOf setup Call.Free = Then.Fail FlashError.OutOfTurn
-openingOf setup (Call.Read offset) = Then.Fail FlashError.OutOfTurn
-openingOf setup (Call.Write offset) = Then.Fail FlashError.OutOfTurn
-
-abbrev pub plainOf : SpiNorFlash → Call → ℕ → Stepped
-plainOf flash call s = begunOf flash s Takes.Nothing (openingOf (flash .setup) call)
-
-unfoldable pub idleOf : SpiNorFlash → Call → ℕ → ℕ → ℕ → Stepped
-idleOf flash Call.New s b d = constructedOf flash singleConfig s
-idleOf flash (Call.WithConfig config) s b d = constructedOf flash config s
-idleOf flash Call.Config s b d = toldOf flash (Answer.Config (flash .setup .config))
-idleOf flash Call.Device s b d = toldOf flash (Answer.Device (flash .setup .device))
-idleOf flash Call.Id s b d = toldOf flash (Answer.Id (flash .setup .id))
-idleOf flash Call.Free s b d = freedOf flash
-idleOf flash (Call.Read offset) s b d = begunOf flash s (Takes.Buffer b) (readThen (flash .setup) offset b)
-idleOf flash (Call.Write offset) s b d = begunOf flash s (Takes.Data d) (writeThen (flash .setup) offset d)
-idleOf flash Call.ReadStatus1 s b d = plainOf flash Call.ReadStatus1 s
-idleOf flash Call.ReadStatus2 s b d = plainOf flash Call.ReadStatus2 s
-idleOf flash Call.IsBusy s b d = plainOf flash Call.IsBusy s
-idleOf flash Call.JedecId s b d = plainOf flash Call.JedecId s
-idleOf flash Call.UniqueId s b d = plainOf flash Call.UniqueId s
-idleOf flash Call.QuadEnabled s b d = plainOf flash Call.QuadEnabled s
-idleOf flash Call.EnableQuad s b d = plainOf flash Call.EnableQuad s
-idleOf flash Call.DisableQuad s b d = plainOf flash Call.DisableQuad s
-idleOf flash Call.Unprotect s b d = plainOf flash Call.Unprotect s
-idleOf flash (Call.Erase from to) s b d = plainOf flash (Call.Erase from to) s
-idleOf flash (Call.EraseSector offset) s b d = plainOf flash (Call.EraseSector offset) s
-idleOf flash (Call.EraseBlock offset) s b d = plainOf flash (Call.EraseBlock offset) s
+unfoldable pub idleOf : SpiNorFlash → Opening → ℕ → Stepped
+idleOf flash (Opening.Constructs config) s = constructedOf flash config s
+idleOf flash (Opening.Tells answer) s = toldOf flash answer
+idleOf flash Opening.Releases s = freedOf flash
+idleOf flash (Opening.Uses takes then) s = begunOf flash s takes then
 
 abbrev pub beginAt : Running → SpiNorFlash → Call → ℕ → ℕ → ℕ → Stepped
-beginAt Running.Idle flash call s b d = idleOf flash call s b d
+beginAt Running.Idle flash call s b d = idleOf flash (openingOf (flash .setup) call b d) s
 beginAt (Running.Busy job) flash call s b d = refusedOf flash FlashError.OutOfTurn
 
 -- a call begun during another is 13

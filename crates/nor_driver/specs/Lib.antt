@@ -1,3 +1,3 @@
-pub mod Step
+pub mod Settle
 pub mod Call
 pub mod Answer

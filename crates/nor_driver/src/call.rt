@@ -1,16 +1,17 @@
-// How each call begins.
-use crate::state::Call;
+// How a call begins, and how it is turned away.
+use crate::settle;
 use crate::state::Given;
 use crate::state::Running;
 use crate::state::SpiNorFlash;
 use crate::state::Stepped;
-use crate::step;
 use nor_answers::answer::Answer;
-use nor_next::next;
-use nor_next::then::Then;
-use nor_phases::phase::EraseKind;
+use nor_opening::opening;
+use nor_opening::opening::Opening;
+use nor_phases::call::Call;
 use nor_phases::phase::Phase;
 use nor_phases::setup::Setup;
+use nor_steps::go;
+use nor_steps::then::Then;
 use qspi::command::SCRATCH_LEN;
 use qspi::transfer::Transfer;
 use spi_flash::error::FlashError;
@@ -21,27 +22,14 @@ use spi_nor::config::NorJedecId;
 use spi_nor::config::SpiNorConfig;
 ghost use mathlib.Core.Path.{_≡_};
 ghost use lib.ListN.{length};
-ghost use Rattle.nor_driver.specs.Call.{notBuilt, givenDevice, constructedOf, toldOf, freedOf, openedOf, begunOf, openingOf, idleOf, beginOf};
+ghost use Rattle.nor_driver.specs.Call.{notBuilt, givenDevice, freshSetup, raisedOf, constructedOf, toldOf, freedOf, openedOf, begunOf, idleOf, beginOf};
 
 impl SpiNorFlash {
     // A driver before any construction.
     pub fn not_built() -> SpiNorFlash
         ensures { λ r. ⌜ r ≡ notBuilt ⌝ }
     {
-        step::flash_of(
-            Setup {
-                config: SpiNorConfig::single(),
-                device: NorDeviceInfo::W25Q128JV,
-                id: NorJedecId {
-                    manufacturer: 0,
-                    memory_type: 0,
-                    capacity: 0,
-                },
-            },
-            false,
-            0,
-            Running::Idle,
-        )
+        settle::flash_of(fresh(SpiNorConfig::single()), false, 0, Running::Idle)
     }
 }
 
@@ -58,30 +46,42 @@ fn given_device(config: SpiNorConfig) -> NorDeviceInfo
     }
 }
 
+fn fresh(config: SpiNorConfig) -> Setup
+    ensures { λ r. ⌜ r ≡ freshSetup config ⌝ }
+{
+    Setup {
+        config: config,
+        device: given_device(config),
+        id: NorJedecId {
+            manufacturer: 0,
+            memory_type: 0,
+            capacity: 0,
+        },
+    }
+}
+
+// Select high, with which a construction begins.
+fn raise(config: SpiNorConfig) -> Stepped
+    ensures { λ r. ⌜ r ≡ raisedOf config ⌝ }
+{
+    let setup = fresh(config);
+    settle::settle(
+        settle::flash_of(setup, false, 0, Running::Idle),
+        Takes::Nothing,
+        go::go(setup, Transfer::Raise, Phase::Raised),
+    )
+}
+
 fn construct(flash: SpiNorFlash, config: SpiNorConfig, scratch_len: usize) -> Stepped
     ensures { λ r. ⌜ r ≡ constructedOf flash config «scratch_len» ⌝ }
 {
-    let device = given_device(config);
     if scratch_len < SCRATCH_LEN {
-        return step::refused(flash, FlashError::Misfit);
+        return settle::refused(flash, FlashError::Misfit);
     }
-    if device.in_bounds() {
-        let setup = Setup {
-            config: config,
-            device: device,
-            id: NorJedecId {
-                manufacturer: 0,
-                memory_type: 0,
-                capacity: 0,
-            },
-        };
-        return step::settle(
-            step::flash_of(setup, false, 0, Running::Idle),
-            Takes::Nothing,
-            next::go(setup, Transfer::Raise, Phase::Raised),
-        );
+    if given_device(config).in_bounds() {
+        return raise(config);
     }
-    step::refused(flash, FlashError::InvalidGeometry)
+    settle::refused(flash, FlashError::InvalidGeometry)
 }
 
 // ---- accessors
@@ -95,7 +95,7 @@ fn told(flash: SpiNorFlash, answer: Answer) -> Stepped
             given: Given::Ended(answer),
         };
     }
-    step::refused(flash, FlashError::OutOfTurn)
+    settle::refused(flash, FlashError::OutOfTurn)
 }
 
 // The Rust gives its bus back, and nothing can be called on what it was.
@@ -105,11 +105,11 @@ fn freed(flash: SpiNorFlash) -> Stepped
     if flash.built {
         let setup = flash.setup;
         return Stepped {
-            flash: step::flash_of(setup, false, flash.delivered, Running::Idle),
+            flash: settle::flash_of(setup, false, flash.delivered, Running::Idle),
             given: Given::Ended(Answer::Done),
         };
     }
-    step::refused(flash, FlashError::OutOfTurn)
+    settle::refused(flash, FlashError::OutOfTurn)
 }
 
 // ---- the other calls
@@ -120,12 +120,14 @@ fn opened(flash: SpiNorFlash, takes: Takes, then: Then) -> Stepped
 {
     let setup = flash.setup;
     match then {
-        Then::Fail(error) => step::refused(flash, error),
-        _ => step::settle(
-            step::flash_of(setup, flash.built, 0, Running::Idle),
-            takes,
-            then,
-        ),
+        Then::Fail(error) => return settle::refused(flash, error),
+        _ => {
+            return settle::settle(
+                settle::flash_of(setup, flash.built, 0, Running::Idle),
+                takes,
+                then,
+            );
+        }
     }
 }
 
@@ -137,72 +139,26 @@ fn begun(flash: SpiNorFlash, scratch_len: usize, takes: Takes, then: Then) -> St
     let device = setup.device;
     if flash.built {
         if scratch_len < SCRATCH_LEN {
-            return step::refused(flash, FlashError::Misfit);
+            return settle::refused(flash, FlashError::Misfit);
         }
         if device.in_bounds() {
             return opened(flash, takes, then);
         }
-        return step::refused(flash, FlashError::InvalidGeometry);
+        return settle::refused(flash, FlashError::InvalidGeometry);
     }
-    step::refused(flash, FlashError::OutOfTurn)
+    settle::refused(flash, FlashError::OutOfTurn)
 }
 
 // ---- every call
 
-// The first transfer of a call that takes nothing, or its refusal. The other calls have none here.
-fn opening(setup: Setup, call: Call) -> Then
-    ensures { λ r. ⌜ r ≡ openingOf setup call ⌝ }
+fn idle(flash: SpiNorFlash, opening: Opening, scratch_len: usize) -> Stepped
+    ensures { λ r. ⌜ r ≡ idleOf flash opening «scratch_len» ⌝ }
 {
-    match call {
-        Call::ReadStatus1 => next::read1(setup, Phase::Status1),
-        Call::ReadStatus2 => next::read2(setup, Phase::Status2),
-        Call::IsBusy => next::read1(setup, Phase::Busy),
-        Call::JedecId => next::read_id(setup, Phase::JedecId),
-        Call::UniqueId => next::read_unique_id(setup, Phase::UniqueId),
-        Call::QuadEnabled => next::read2(setup, Phase::QuadEnabled2),
-        Call::EnableQuad => next::read2(setup, Phase::EnableCheck2),
-        Call::DisableQuad => next::read2(setup, Phase::DisableRead2),
-        Call::Unprotect => next::read1(setup, Phase::UnprotectRead1),
-        Call::Erase { from, to } => next::erase_then(setup, from, to),
-        Call::EraseSector { offset } => next::erase_one(setup, EraseKind::Sector, offset),
-        Call::EraseBlock { offset } => next::erase_one(setup, EraseKind::Block, offset),
-        _ => Then::Fail(FlashError::OutOfTurn),
-    }
-}
-
-fn idle(
-    flash: SpiNorFlash,
-    call: Call,
-    scratch_len: usize,
-    buffer_len: usize,
-    data_len: usize,
-) -> Stepped
-    ensures { λ r. ⌜ r ≡ idleOf flash call «scratch_len» «buffer_len» «data_len» ⌝ }
-{
-    let setup = flash.setup;
-    let config = setup.config;
-    let device = setup.device;
-    let id = setup.id;
-    match call {
-        Call::New => construct(flash, SpiNorConfig::single(), scratch_len),
-        Call::WithConfig(c) => construct(flash, c, scratch_len),
-        Call::Config => told(flash, Answer::Config(config)),
-        Call::Device => told(flash, Answer::Device(device)),
-        Call::Id => told(flash, Answer::Id(id)),
-        Call::Free => freed(flash),
-        Call::Read { offset } => begun(
-            flash,
-            scratch_len,
-            Takes::Buffer(buffer_len),
-            next::read_then(setup, offset, buffer_len),
-        ),
-        Call::Write { offset } => begun(
-            flash,
-            scratch_len,
-            Takes::Data(data_len),
-            next::write_then(setup, offset, data_len),
-        ),
-        _ => begun(flash, scratch_len, Takes::Nothing, opening(setup, call)),
+    match opening {
+        Opening::Constructs(config) => return construct(flash, config, scratch_len),
+        Opening::Tells(answer) => return told(flash, answer),
+        Opening::Releases => return freed(flash),
+        Opening::Uses { takes, then } => return begun(flash, scratch_len, takes, then),
     }
 }
 
@@ -213,8 +169,14 @@ impl SpiNorFlash {
     {
         let running = self.running;
         match running {
-            Running::Idle => idle(self, call, scratch.len(), buffer.len(), data.len()),
-            Running::Busy(_) => step::refused(self, FlashError::OutOfTurn),
+            Running::Idle => {
+                return idle(
+                    self,
+                    opening::opening_of(self.setup, call, buffer.len(), data.len()),
+                    scratch.len(),
+                );
+            }
+            Running::Busy(_) => return settle::refused(self, FlashError::OutOfTurn),
         }
     }
 }

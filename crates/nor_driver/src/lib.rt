@@ -2,5 +2,5 @@
 pub mod call;
 pub mod ending;
 pub mod named;
+pub mod settle;
 pub mod state;
-pub mod step;

@@ -1,7 +1,7 @@
 // The calls under the Rust's names. What a call does not take is not looked at, so the scratch stands in for it.
-use crate::state::Call;
 use crate::state::SpiNorFlash;
 use crate::state::Stepped;
+use nor_phases::call::Call;
 use spi_nor::config::SpiNorConfig;
 ghost use mathlib.Core.Path.{_≡_};
 ghost use lib.ListN.{length};

@@ -17,7 +17,7 @@ use Rattle.nor_runs.specs.Bound.{pageTaken, quadBound, unitBound, delayB
 use Rattle.spi_nor.specs.declared.config.QuadSetting.{QuadSetting}
 use Rattle.spi_nor.specs.declared.config.SpiNorConfig.{SpiNorConfig}
 use Rattle.nor_phases.specs.declared.phase.EraseKind.{EraseKind}
-use Rattle.nor_driver.specs.declared.state.Call.{Call}
+use Rattle.nor_phases.specs.declared.call.Call.{Call}
 use Rattle.nor_phases.specs.declared.setup.Setup.{Setup}
 use Rattle.spi_nor.proofs.DeviceBounds.{deviceBounds}
 use Rattle.nor_runs.proofs.Waits.{wait-delays, wait-actions}

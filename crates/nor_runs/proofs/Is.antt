@@ -17,22 +17,25 @@ use Rattle.spi_flash.specs.declared.loan.Takes.{Takes}
 use Rattle.flash_runs.proofs.General as General
 use Rattle.flash_runs.proofs.General.{idle, busy, settled, exchanged, told, opened, freed, constructed, begun, openedAs, proceeds, answerAt, beginAt}
 use Rattle.flash_runs.proofs.Supplies.{viewOf, Alike, Is}
-use Rattle.spi_nor.specs.Config.{inBoundsOf, singleConfig}
+use Rattle.spi_nor.specs.Config.{inBoundsOf}
 use Rattle.spi_nor.specs.declared.config.SpiNorConfig.{SpiNorConfig}
 use Rattle.nor_next.specs.Next.{nextOf}
-use Rattle.nor_next.specs.declared.then.Then.{Then}
+use Rattle.nor_steps.specs.declared.then.Then.{Then}
 use Rattle.nor_answers.specs.declared.answer.Answer.{Answer}
 use Rattle.nor_phases.specs.declared.phase.Phase.{Phase}
 use Rattle.nor_phases.specs.declared.setup.Setup.{Setup}
-use Rattle.nor_driver.specs.Step.{Moved, movedTo, flashOf, refusedOf, settledOf, exchangedThen, proceedOf, stepAt, stepOf}
-use Rattle.nor_driver.specs.Call.{givenDevice, freshSetup, constructedOf, toldOf, freedOf, openedOf, begunOf, openingOf, idleOf, beginAt as beginsAt, beginOf}
-use Rattle.nor_driver.specs.declared.state.Call.{Call}
+use Rattle.nor_reply.specs.Step.{Moved, movedTo, exchangedThen, proceedOf, stepAt, stepOf}
+use Rattle.nor_driver.specs.Settle.{flashOf, refusedOf, settledOf}
+use Rattle.nor_driver.specs.Call.{givenDevice, freshSetup, constructedOf, toldOf, freedOf, openedOf, begunOf, idleOf, beginAt as beginsAt, beginOf}
+use Rattle.nor_opening.specs.Opening.{openingOf}
+use Rattle.nor_opening.specs.declared.opening.Opening.{Opening}
+use Rattle.nor_phases.specs.declared.call.Call.{Call}
 use Rattle.nor_driver.specs.declared.state.Job.{Job}
 use Rattle.nor_driver.specs.declared.state.Running.{Running}
 use Rattle.nor_driver.specs.declared.state.SpiNorFlash.{SpiNorFlash}
 use Rattle.nor_driver.specs.declared.state.Stepped.{Stepped}
 use Rattle.nor_runs.specs.Run.{begunAs, steppedAs, isRunning, norDriver}
-use Rattle.nor_runs.proofs.Places.{thenAs, opens, norParts}
+use Rattle.nor_runs.proofs.Places.{thenAs, openingAs, norParts}
 
 -- ---- its state
 
@@ -137,37 +140,16 @@ module _ (flash : SpiNorFlash) (l : Lent) where
       (either (inBoundsOf (flash .setup .device)) _ _ _ _ (opens-with takes x) (refuses FlashError.InvalidGeometry)))
       (refuses FlashError.OutOfTurn)
 
-  abbrev Starts : Call → Type 0
-  Starts c =
-      Begins (idleOf flash c (length (l .scratch)) (length (l .buffer)) (length (l .given)))
-      (openedAs norParts bounds (view flash) (opens (flash .setup) c (length (l .buffer)) (length (l .given))) l)
-
-  starts : (c : Call) → Starts c
+  starts : (opening : Opening) → Begins (idleOf flash opening (length (l .scratch))) (openedAs norParts bounds (view flash) (openingAs opening) l)
   unfolding idleOf
-  starts Call.New = constructs singleConfig
-  starts (Call.WithConfig config) = constructs config
-  starts Call.Config = tells (Answer.Config (flash .setup .config))
-  starts Call.Device = tells (Answer.Device (flash .setup .device))
-  starts Call.Id = tells (Answer.Id (flash .setup .id))
-  starts Call.Free = frees
-  starts Call.ReadStatus1 = works Takes.Nothing (openingOf (flash .setup) Call.ReadStatus1)
-  starts Call.ReadStatus2 = works Takes.Nothing (openingOf (flash .setup) Call.ReadStatus2)
-  starts Call.IsBusy = works Takes.Nothing (openingOf (flash .setup) Call.IsBusy)
-  starts Call.JedecId = works Takes.Nothing (openingOf (flash .setup) Call.JedecId)
-  starts Call.UniqueId = works Takes.Nothing (openingOf (flash .setup) Call.UniqueId)
-  starts Call.QuadEnabled = works Takes.Nothing (openingOf (flash .setup) Call.QuadEnabled)
-  starts Call.EnableQuad = works Takes.Nothing (openingOf (flash .setup) Call.EnableQuad)
-  starts Call.DisableQuad = works Takes.Nothing (openingOf (flash .setup) Call.DisableQuad)
-  starts (Call.Read offset) = works _ _
-  starts (Call.Write offset) = works _ _
-  starts Call.Unprotect = works Takes.Nothing (openingOf (flash .setup) Call.Unprotect)
-  starts (Call.Erase from to) = works Takes.Nothing (openingOf (flash .setup) (Call.Erase from to))
-  starts (Call.EraseSector offset) = works Takes.Nothing (openingOf (flash .setup) (Call.EraseSector offset))
-  starts (Call.EraseBlock offset) = works Takes.Nothing (openingOf (flash .setup) (Call.EraseBlock offset))
+  starts (Opening.Constructs config) = constructs config
+  starts (Opening.Tells answer) = tells answer
+  starts Opening.Releases = frees
+  starts (Opening.Uses takes x) = works takes x
 
   begins-at : (running : Running) (c : Call) →
       Begins (beginsAt running flash c (length (l .scratch)) (length (l .buffer)) (length (l .given))) (beginAt norParts bounds (runningAs running) (view flash) c l)
-  begins-at Running.Idle c = starts c
+  begins-at Running.Idle c = starts (openingOf (flash .setup) c (length (l .buffer)) (length (l .given)))
   begins-at (Running.Busy job) c = refuses FlashError.OutOfTurn
 
 -- ---- all of it

@@ -10,7 +10,13 @@ use Rattle.spi_flash.specs.declared.wait.Wait.{Wait}
 use Rattle.spi_nor.specs.Opcode.{timingsOf}
 use Rattle.spi_nor.specs.Status.{busyOf, writeEnabledOf, quadEnabled1Of, quadEnabled2Of, unprotected1Of, unprotected2Of}
 use Rattle.nor_phases.specs.Transfer.{placeOf, chunkOf, pageOf, taskOperation, inRange, multipleOf, unitSize, stepKind, afterUnit}
-use Rattle.nor_next.specs.Next.{byteOf, idOf, deviceAt, deviceFor, knownAs, builtThen, readFrom, programFrom, verifyThen, verifiedThen, latchedThen, eraseUnit, eraseFrom, unprotectFirst, unprotectSecond, resumeTask, waitThen, identifiedThen, afterPhase}
+use Rattle.nor_next.specs.Next.{byteOf, afterPhase}
+use Rattle.nor_steps.specs.Register.{idOf, deviceAt, deviceFor, knownAs, builtThen, identifiedThen}
+use Rattle.nor_pages.specs.Read.{readFrom}
+use Rattle.nor_pages.specs.Write.{programFrom, verifyThen, verifiedThen}
+use Rattle.nor_next.specs.Wait.{latchedThen, resumeTask, waitThen}
+use Rattle.nor_pages.specs.Erase.{eraseUnit, eraseFrom}
+use Rattle.nor_steps.specs.Protection.{unprotectFirst, unprotectSecond}
 use Rattle.spi_nor.specs.Config.{inBoundsOf, fromJedec}
 use Rattle.spi_nor.proofs.DeviceBounds.{deviceBounds}
 use Rattle.spi_nor.specs.declared.config.DeviceSetting.{DeviceSetting}
@@ -24,7 +30,7 @@ use Rattle.nor_answers.specs.declared.answer.Answer.{Answer}
 use Rattle.qspi.specs.declared.transfer.Transfer.{Transfer}
 use Rattle.spi_flash.specs.declared.error.FlashError.{FlashError}
 use Rattle.nor_phases.specs.declared.setup.Setup.{Setup}
-use Rattle.nor_next.specs.declared.then.Then.{Then}
+use Rattle.nor_steps.specs.declared.then.Then.{Then}
 use Rattle.nor_runs.proofs.Places.{decide, Valid, Built, Stays}
 
 -- a test between two ways of going on

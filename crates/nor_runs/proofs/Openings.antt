@@ -19,19 +19,22 @@ use Rattle.spi_nor.specs.Config.{inBoundsOf, singleConfig}
 use Rattle.spi_nor.specs.declared.config.QuadSetting.{QuadSetting}
 use Rattle.spi_nor.specs.declared.config.SpiNorConfig.{SpiNorConfig}
 use Rattle.nor_phases.specs.Transfer.{placeOf, chunkOf, readAt, readTransfer, inRange, multipleOf, unitSize, stepKind, afterUnit}
-use Rattle.nor_next.specs.Next.{readThen, readFrom, writeThen, programFrom, eraseUnit, eraseOne, eraseThen, eraseFrom}
-use Rattle.nor_driver.specs.Call.{freshSetup, openingOf}
+use Rattle.nor_pages.specs.Read.{readThen, readFrom}
+use Rattle.nor_pages.specs.Write.{writeThen, programFrom}
+use Rattle.nor_pages.specs.Erase.{eraseUnit, eraseOne, eraseThen, eraseFrom}
+use Rattle.nor_driver.specs.Call.{freshSetup}
+use Rattle.nor_opening.specs.Opening.{openingOf}
 use Rattle.nor_runs.specs.Rust.{read, write, erase-unit, erase, erasing}
 use Rattle.nor_runs.specs.Program.{Left, leaving, programOf}
 use Rattle.nor_runs.specs.Run.{sortOf, norDriver}
 use Rattle.nor_phases.specs.declared.phase.EraseKind.{EraseKind}
 use Rattle.nor_phases.specs.declared.phase.Phase.{Phase}
 use Rattle.nor_answers.specs.declared.answer.Answer.{Answer}
-use Rattle.nor_driver.specs.declared.state.Call.{Call}
+use Rattle.nor_phases.specs.declared.call.Call.{Call}
 use Rattle.nor_phases.specs.declared.setup.Setup.{Setup}
-use Rattle.nor_next.specs.declared.then.Then.{Then}
+use Rattle.nor_steps.specs.declared.then.Then.{Then}
 use Rattle.nor_runs.proofs.Loops.{erasing-loop}
-use Rattle.nor_runs.proofs.Places.{place, thenAs, decide, opens, norParts, Valid, Built, Stays}
+use Rattle.nor_runs.proofs.Places.{place, thenAs, openingAs, decide, norParts, Valid, Built, Stays}
 use Rattle.nor_runs.proofs.Keeps.{stays, keeps-read, keeps-program, keeps-unit, keeps-erase, keeps-pick}
 use Rattle.nor_runs.proofs.Simulation.{meaning, then-assoc, starts, reads-on, writes-on, erases-unit, erases-on, beginnings}
 
@@ -164,7 +167,7 @@ module _ (s : Setup) (c : Call) (b d : ℕ) where
       program ≡ ask Transfer.Raise (meaning (place (freshSetup config) Phase.Raised)) → Construction norDriver norParts Valid Built meaning s c b d (freshSetup config)
   constructed config sorted alike follows = record { sorted = sorted; follows = λ inside. follows; valid = λ inside. inside; alike = alike }
 
-pub opened : (s : Setup) (c : Call) (b d : ℕ) → OpensAs norDriver norParts Valid Built meaning s c b d (opens s c b d)
+pub opened : (s : Setup) (c : Call) (b d : ℕ) → OpensAs norDriver norParts Valid Built meaning s c b d (openingAs (openingOf s c b d))
 unfolding openingOf programOf
 opened s Call.New b d = constructed s Call.New b d singleConfig refl (λ before. refl) (beginnings s .construction singleConfig)
 opened s (Call.WithConfig config) b d = constructed s (Call.WithConfig config) b d config refl (λ before. refl) (beginnings s .construction config)

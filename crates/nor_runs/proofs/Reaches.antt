@@ -25,7 +25,8 @@ use Rattle.spi_nor.specs.Status.{busyOf, writeEnabledOf, quadEnabled1Of, quadEn
 use Rattle.spi_nor.specs.Config.{fromJedec, singleConfig, inBoundsOf}
 use Rattle.nor_phases.specs.Transfer.{placeOf, pageOf, readAt, readTransfer, programAt, programTransfer, inRange, multipleOf, unitSize, stepKind, afterUnit}
 use Rattle.nor_driver.specs.Call.{givenAt}
-use Rattle.nor_next.specs.Next.{byteOf, deviceAt, deviceFor, idOf, knownAs}
+use Rattle.nor_next.specs.Next.{byteOf}
+use Rattle.nor_steps.specs.Register.{deviceAt, deviceFor, idOf, knownAs}
 use Rattle.nor_driver.specs.Call.{freshSetup}
 use Rattle.nor_runs.specs.Rust.{read-status1, read-status2, is-busy, write-enable, write-status1, write-status2, jedec-id, unique-id, quad-enabled, enable-quad, disable-quad, reading, read, read-back, page-program, writing, write, erase-unit, erase-loop, erasing, erase, unprotect, quad-if, with-config}
 use Rattle.nor_runs.specs.Program.{Left, programOf}
@@ -35,7 +36,7 @@ use Rattle.spi_nor.specs.declared.config.DeviceSetting.{DeviceSetting}
 use Rattle.spi_nor.specs.declared.config.QuadSetting.{QuadSetting}
 use Rattle.spi_nor.specs.declared.config.SpiNorConfig.{SpiNorConfig}
 use Rattle.nor_phases.specs.declared.phase.EraseKind.{EraseKind}
-use Rattle.nor_driver.specs.declared.state.Call.{Call}
+use Rattle.nor_phases.specs.declared.call.Call.{Call}
 use Rattle.nor_phases.specs.declared.setup.Setup.{Setup}
 use Rattle.spi_nor.specs.declared.opcode.Operation.{Operation}
 use Rattle.spi_nor.proofs.DeviceBounds.{deviceBounds}

@@ -18,7 +18,13 @@ use Rattle.spi_nor.specs.Opcode.{timingsOf}
 use Rattle.spi_nor.specs.Status.{busyOf, writeEnabledOf, quadEnabled1Of, quadEnabled2Of, withQuad1Of, withQuad2Of, withoutQuad1Of, withoutQuad2Of, unprotected1Of, unprotected2Of}
 use Rattle.spi_nor.specs.Command.{writeEnableCommand, readStatus1Command, readStatus2Command, readIdCommand, readUniqueIdCommand}
 use Rattle.nor_phases.specs.Transfer.{numberTransfer, placeOf, chunkOf, pageOf, taskTransfer, taskOperation, inRange, multipleOf, unitSize, stepKind, afterUnit}
-use Rattle.nor_next.specs.Next.{byteOf, idOf, knownAs, builtThen, readFrom, programFrom, verifyThen, verifiedThen, latchedThen, eraseUnit, eraseFrom, unprotectFirst, unprotectSecond, resumeTask, waitThen, identifiedThen, afterPhase, nextOf}
+use Rattle.nor_next.specs.Next.{byteOf, afterPhase, nextOf}
+use Rattle.nor_steps.specs.Register.{idOf, knownAs, builtThen, identifiedThen}
+use Rattle.nor_pages.specs.Read.{readFrom}
+use Rattle.nor_pages.specs.Write.{programFrom, verifyThen, verifiedThen}
+use Rattle.nor_next.specs.Wait.{latchedThen, resumeTask, waitThen}
+use Rattle.nor_pages.specs.Erase.{eraseUnit, eraseFrom}
+use Rattle.nor_steps.specs.Protection.{unprotectFirst, unprotectSecond}
 use Rattle.nor_runs.specs.Rust.{Nothing, busyValue, read-status1, read-status2, is-busy, wait-ready, write-enable, write-status1, write-status2, jedec-id, unique-id, quad-enabled, enable-quad, disable-quad, reading, read-back, page-program, writing, erase-unit, erasing, Unprotected, unprotect, quad-if, with-config}
 use Rattle.nor_driver.specs.Call.{freshSetup}
 use Rattle.nor_runs.specs.Program.{Left, leaving}

@@ -28,7 +28,7 @@ use Rattle.nor_phases.proofs.Pieces.{chunk-within}
 use Rattle.nor_answers.specs.declared.answer.Answer.{Answer}
 use Rattle.nor_phases.specs.declared.phase.EraseKind.{EraseKind}
 use Rattle.nor_phases.specs.declared.setup.Setup.{Setup}
-use Rattle.nor_driver.specs.declared.state.Call.{Call}
+use Rattle.nor_phases.specs.declared.call.Call.{Call}
 use Rattle.nor_runs.specs.Rust.{busyValue, wait-ready, reading, read, with-config}
 use Rattle.nor_runs.specs.Program.{Left, leaving, programOf}
 use Rattle.nor_runs.specs.Bound.{pageTaken, eraseSum}

@@ -19,7 +19,7 @@ use Rattle.spi_nor.specs.Status.{quadEnabled1Of, quadEnabled2Of, unprotected1Of
 use Rattle.spi_nor.specs.Opcode.{MAX-BULK-LEN}
 use Rattle.nor_phases.specs.Transfer.{numberTransfer, chunkOf, pageOf, readAt, readTransfer, programAt, programTransfer, eraseTransfer, eraseOperation, multipleOf, stepKind, afterUnit}
 use Rattle.nor_driver.specs.Call.{givenAt}
-use Rattle.nor_next.specs.Next.{deviceAt, deviceFor, idOf}
+use Rattle.nor_steps.specs.Register.{deviceAt, deviceFor, idOf}
 use Rattle.nor_runs.specs.Rust.{read-status1, read-status2, is-busy, wait-ready, write-enable, write-status1, write-status2, jedec-id, unique-id, quad-enabled, enable-quad, disable-quad, reading, read, read-back, page-program, writing, write, erase-unit, erase-loop, erasing, erase, unprotect, quad-if, with-config}
 use Rattle.nor_runs.specs.Bound.{pageTaken, eraseSum, pieces}
 use Rattle.spi_nor.specs.declared.config.DeviceSetting.{DeviceSetting}

@@ -4,7 +4,7 @@ use Rattle.spi_flash.specs.Prog.{Prog, ret, _>>=_, _>>_}
 use Rattle.flash_runs.specs.Driver as Driver
 use Rattle.nor_runs.specs.Rust.{read-status1, read-status2, is-busy, jedec-id, unique-id, quad-enabled, enable-quad, disable-quad, read, write, erase-sector, erase-block, erase, Unprotected, unprotect, with-config, new}
 use Rattle.nor_answers.specs.declared.answer.Answer.{Answer}
-use Rattle.nor_driver.specs.declared.state.Call.{Call}
+use Rattle.nor_phases.specs.declared.call.Call.{Call}
 use Rattle.nor_phases.specs.declared.setup.Setup.{Setup}
 
 -- the answer, and what the Rust's struct holds afterwards

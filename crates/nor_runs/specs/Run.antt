@@ -16,11 +16,11 @@ use Rattle.spi_nor.specs.Config.{inBoundsOf, singleConfig}
 use Rattle.nor_answers.specs.Answer.{answerValues}
 use Rattle.nor_answers.specs.declared.answer.Answer.{Answer}
 use Rattle.nor_phases.specs.declared.setup.Setup.{Setup}
-use Rattle.nor_driver.specs.Step.{Moved, stepOf, deliveredPart}
+use Rattle.nor_reply.specs.Step.{Moved, stepOf, deliveredPart}
 use Rattle.nor_driver.specs.Call.{freshSetup, notBuilt, beginOf}
 use Rattle.nor_runs.specs.Program.{Left, leaving, programOf}
 use Rattle.nor_runs.specs.Bound.{pageTaken, delayBound, actionBound}
-use Rattle.nor_driver.specs.declared.state.Call.{Call}
+use Rattle.nor_phases.specs.declared.call.Call.{Call}
 use Rattle.nor_driver.specs.declared.state.Given.{Given}
 use Rattle.nor_driver.specs.declared.state.Running.{Running}
 use Rattle.nor_driver.specs.declared.state.SpiNorFlash.{SpiNorFlash}

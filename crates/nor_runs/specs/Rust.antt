@@ -15,7 +15,8 @@ use Rattle.spi_nor.specs.Status.{busyOf, writeEnabledOf, quadEnabled1Of, quadEn
 use Rattle.spi_nor.specs.Config.{singleConfig}
 use Rattle.spi_nor.specs.Command.{writeEnableCommand, readStatus1Command, readStatus2Command, writeStatus1Command, writeStatus2Command, readIdCommand, readUniqueIdCommand}
 use Rattle.nor_phases.specs.Transfer.{numberTransfer, placeOf, chunkOf, pageOf, readTransfer, programTransfer, eraseTransfer, eraseOperation, inRange, multipleOf, unitSize, stepKind, afterUnit}
-use Rattle.nor_next.specs.Next.{MAX-VERIFY-PAGE-SIZE, byteOf, idOf, knownAs}
+use Rattle.nor_steps.specs.Register.{MAX-VERIFY-PAGE-SIZE, idOf, knownAs}
+use Rattle.nor_next.specs.Next.{byteOf}
 use Rattle.nor_driver.specs.Call.{freshSetup}
 use Rattle.spi_nor.specs.declared.config.NorJedecId.{NorJedecId}
 use Rattle.spi_nor.specs.declared.config.QuadSetting.{QuadSetting}

@@ -11,8 +11,8 @@ use Rattle.lines.specs.Text.{Text, textOf, appended}
 use Rattle.lines.specs.Line.{lineOf, endLine}
 use Rattle.nor_driver.specs.Answer.{endingNumber}
 use Rattle.nor_driver.specs.Call.{notBuilt}
-use Rattle.nor_driver.specs.Step.{refusedOf}
-use Rattle.nor_driver.specs.declared.state.Call.{Call}
+use Rattle.nor_driver.specs.Settle.{refusedOf}
+use Rattle.nor_phases.specs.declared.call.Call.{Call}
 use Rattle.nor_driver.specs.declared.state.Given.{Given}
 use Rattle.nor_tape.specs.Replay.{replayAt, begunOver}
 use Rattle.nor_tape.specs.declared.replay.Replay.{Replay}

@@ -6,9 +6,10 @@ use Rattle.qspi.specs.Bus.{onBus}
 use Rattle.qspi.specs.Choice.{pick}
 use Rattle.qspi.specs.declared.bus.Reply.{Reply}
 use Rattle.spi_flash.specs.declared.error.FlashError.{FlashError}
-use Rattle.nor_driver.specs.Step.{Moved, movedTo, refusedOf, stepOf}
+use Rattle.nor_reply.specs.Step.{Moved, movedTo, stepOf}
+use Rattle.nor_driver.specs.Settle.{refusedOf}
 use Rattle.nor_driver.specs.Call.{beginOf}
-use Rattle.nor_driver.specs.declared.state.Call.{Call}
+use Rattle.nor_phases.specs.declared.call.Call.{Call}
 use Rattle.nor_driver.specs.declared.state.Given.{Given}
 use Rattle.nor_driver.specs.declared.state.SpiNorFlash.{SpiNorFlash}
 use Rattle.nor_driver.specs.declared.state.Stepped.{Stepped}

@@ -2,10 +2,10 @@
 use crate::replay;
 use crate::replay::Replay;
 use lines::line;
-use nor_driver::state::Call;
+use nor_driver::settle;
 use nor_driver::state::Given;
 use nor_driver::state::SpiNorFlash;
-use nor_driver::step;
+use nor_phases::call::Call;
 use spi_flash::error::FlashError;
 ghost use mathlib.Core.Path.{_≡_};
 ghost use lib.ListN.{length};
@@ -30,7 +30,7 @@ pub fn begin(input: &[u8], scratch: &[u8]) -> Replay
         );
     }
     replay::replay_at(
-        step::refused(SpiNorFlash::not_built(), FlashError::MalformedTape),
+        settle::refused(SpiNorFlash::not_built(), FlashError::MalformedTape),
         0,
     )
 }

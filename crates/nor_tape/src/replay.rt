@@ -1,9 +1,10 @@
 // A call over a tape: bus actions are answered by its records, select and delay by "done".
-use nor_driver::state::Call;
+use nor_driver::settle;
 use nor_driver::state::Given;
 use nor_driver::state::SpiNorFlash;
 use nor_driver::state::Stepped;
-use nor_driver::step;
+use nor_phases::call::Call;
+use nor_reply::step;
 use qspi::bus;
 use qspi::bus::Reply;
 use spi_flash::error::FlashError;
@@ -43,7 +44,7 @@ pub fn begin(
     if judge::well_formed(tape) {
         return replay_at(flash.begin(call, scratch, buffer, data), judge::first(tape));
     }
-    replay_at(step::refused(flash, FlashError::MalformedTape), 0)
+    replay_at(settle::refused(flash, FlashError::MalformedTape), 0)
 }
 
 // The reply that is no record: select and delay.
@@ -76,7 +77,7 @@ fn recorded(
     let given = taken.given;
     let next = taken.next;
     if record::none_left(given) {
-        return replay_at(step::refused(flash, FlashError::TapeSpent), next);
+        return replay_at(settle::refused(flash, FlashError::TapeSpent), next);
     }
     let stepped = step::step(
         flash,

@@ -13,7 +13,7 @@ use Rattle.trace_words.specs.Loan.{laidOf}
 use Rattle.trace_words.specs.Print.{callLine}
 use Rattle.trace_turns.specs.Between.{betweenAt}
 use Rattle.trace_turns.specs.declared.place.Mode.{Mode}
-use Rattle.nor_driver.specs.Step.{Moved}
+use Rattle.nor_reply.specs.Step.{Moved}
 use Rattle.nor_words.specs.Call.{askedOf}
 use Rattle.nor_words.specs.Heard.{lineOf}
 use Rattle.nor_words.specs.Lent.{begunOver}

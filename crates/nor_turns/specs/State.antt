@@ -9,7 +9,7 @@ use Rattle.trace_turns.specs.Place as place
 use Rattle.trace_turns.specs.declared.place.Mode.{Mode}
 use Rattle.trace_turns.specs.declared.place.Place.{Place}
 use Rattle.nor_driver.specs.Call.{notBuilt}
-use Rattle.nor_driver.specs.Step.{refusedOf}
+use Rattle.nor_driver.specs.Settle.{refusedOf}
 use Rattle.nor_driver.specs.declared.state.Given.{Given}
 use Rattle.nor_driver.specs.declared.state.Stepped.{Stepped}
 use Rattle.nor_turns.specs.declared.state.Trace.{Trace}

@@ -1,8 +1,8 @@
 // Where a NOR's trace stands.
+use nor_driver::settle;
 use nor_driver::state::Given;
 use nor_driver::state::SpiNorFlash;
 use nor_driver::state::Stepped;
-use nor_driver::step;
 use spi_flash::error::FlashError;
 use spi_flash::loan::Takes;
 use spi_nor::config::SpiNorConfig;
@@ -41,7 +41,7 @@ pub fn start() -> Trace
     ensures { λ r. ⌜ r ≡ startOf ⌝ }
 {
     trace_of(
-        step::refused(SpiNorFlash::not_built(), FlashError::OutOfTurn),
+        settle::refused(SpiNorFlash::not_built(), FlashError::OutOfTurn),
         SpiNorConfig::single(),
         place::start(),
     )

@@ -7,7 +7,7 @@ use lib.ListN.{List·getD-eq-default}
 use lib.Dec.{ltb}
 use borrow.Author.Tests.{ltb-true, ltb-false}
 use Rattle.spi_nor.specs.declared.config.SpiNorConfig.{SpiNorConfig}
-use Rattle.nor_driver.specs.declared.state.Call.{Call}
+use Rattle.nor_phases.specs.declared.call.Call.{Call}
 use Rattle.nor_words.specs.Call.{calls, callOf}
 
 pub call-at : (n k : ℕ) (config : SpiNorConfig) (first second : ℕ) → k ≡ n → callOf n config first second ≡ callOf k config first second

@@ -13,7 +13,7 @@ use Rattle.spi_nor.specs.declared.config.SpiNorConfig.{SpiNorConfig}
 use Rattle.trace_words.specs.Request.{saidOf}
 use Rattle.trace_words.specs.declared.request.Form.{Form}
 use Rattle.trace_words.specs.declared.request.Request.{Request}
-use Rattle.nor_driver.specs.declared.state.Call.{Call}
+use Rattle.nor_phases.specs.declared.call.Call.{Call}
 use Rattle.nor_words.specs.declared.call.Asked.{Asked}
 
 -- "device 8388608 4096 65536 256 NOR: a device of the caller's own"

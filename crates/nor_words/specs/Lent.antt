@@ -9,8 +9,9 @@ use Rattle.spi_flash.specs.declared.error.FlashError.{FlashError}
 use Rattle.spi_flash.specs.declared.loan.Takes.{Takes}
 use Rattle.trace_words.specs.Loan.{bufferOf, dataOf}
 use Rattle.nor_driver.specs.Call.{beginOf}
-use Rattle.nor_driver.specs.Step.{Moved, movedTo, refusedOf, stepOf}
-use Rattle.nor_driver.specs.declared.state.Call.{Call}
+use Rattle.nor_reply.specs.Step.{Moved, movedTo, stepOf}
+use Rattle.nor_driver.specs.Settle.{refusedOf}
+use Rattle.nor_phases.specs.declared.call.Call.{Call}
 use Rattle.nor_driver.specs.declared.state.SpiNorFlash.{SpiNorFlash}
 
 -- a call handed to the driver, with what it lends in the room

@@ -2,7 +2,7 @@
 use case_text::line::Four;
 use case_text::line::Quad;
 use case_text::word;
-use nor_driver::state::Call;
+use nor_phases::call::Call;
 use spi_flash::loan::Takes;
 use spi_nor::config::DeviceSetting;
 use spi_nor::config::NorDeviceInfo;

@@ -1,8 +1,9 @@
 // The NOR driver's calls and steps, with what a call lends.
-use nor_driver::state::Call;
+use nor_driver::settle;
 use nor_driver::state::SpiNorFlash;
 use nor_driver::state::Stepped;
-use nor_driver::step;
+use nor_phases::call::Call;
+use nor_reply::step;
 use qspi::bus::Reply;
 use qspi::bytes;
 use spi_flash::error::FlashError;
@@ -10,7 +11,7 @@ use spi_flash::loan::Takes;
 use trace_words::loan;
 ghost use mathlib.Core.List.{[]};
 ghost use mathlib.Core.Path.{_≡_};
-ghost use Rattle.nor_driver.specs.Step.{movedTo};
+ghost use Rattle.nor_reply.specs.Step.{movedTo};
 ghost use Rattle.trace_words.specs.Loan.{laidOf};
 ghost use Rattle.nor_words.specs.Lent.{begunOver, noneOver, bufferOver, dataOver, answeredOver};
 
@@ -59,7 +60,7 @@ fn with_buffer(
     if n <= room.len() {
         return step::step(flash, reply, bytes, scratch, &mut room[..n], &data);
     }
-    step::refused(flash, FlashError::Misfit)
+    settle::refused(flash, FlashError::Misfit)
 }
 
 fn with_data(

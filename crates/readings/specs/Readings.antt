@@ -13,7 +13,7 @@ use Rattle.nor_phases.specs.Transfer.{stepKind, afterUnit}
 use Rattle.nor_driver.specs.Call.{freshSetup}
 use Rattle.nor_runs.specs.Bound.{delayBound}
 use Rattle.nor_phases.specs.declared.phase.EraseKind.{EraseKind}
-use Rattle.nor_driver.specs.declared.state.Call.{Call}
+use Rattle.nor_phases.specs.declared.call.Call.{Call}
 use Rattle.spi_nand.specs.Opcode.{timingsOf}
 use Rattle.spi_nand.specs.Command.{pageReadCommand}
 use Rattle.spi_nand.specs.Status.{statusOf, verdictNumber, verdictOf, QUAD-ENABLE, BUFFER-READ, ECC-ENABLE, OPERATIONAL, configurationOf, configurationByte, withBits, protectionOf, isUnlocked}

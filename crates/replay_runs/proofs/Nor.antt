@@ -11,7 +11,7 @@ use Rattle.tape.specs.Record.{takenAt, spentOf}
 use Rattle.tape_runs.specs.Player.{shownAs}
 use Rattle.tape_runs.proofs.Laws.{Hears, Stands, Steps, Moves, Follows}
 use Rattle.tape_runs.proofs.Hearing.{general-hears}
-use Rattle.nor_driver.specs.Step.{stepAt, stepOf}
+use Rattle.nor_reply.specs.Step.{stepAt, stepOf}
 use Rattle.nor_driver.specs.declared.state.Given.{Given}
 use Rattle.nor_driver.specs.declared.state.Running.{Running}
 use Rattle.nor_driver.specs.declared.state.SpiNorFlash.{SpiNorFlash}

@@ -4,7 +4,7 @@ use Rattle.spi_flash.specs.Loan.{Lent}
 use Rattle.spi_flash.specs.Machine.{lentAs}
 use Rattle.tape_runs.specs.Player as Generic
 use Rattle.tape_runs.specs.Player.{Last, acts, ends, fails, refuses, Awaited, nothing, frame, Player}
-use Rattle.nor_driver.specs.declared.state.Call.{Call}
+use Rattle.nor_phases.specs.declared.call.Call.{Call}
 use Rattle.nor_driver.specs.declared.state.Given.{Given}
 use Rattle.nor_driver.specs.declared.state.Running.{Running}
 use Rattle.nor_driver.specs.declared.state.SpiNorFlash.{SpiNorFlash}

@@ -7,12 +7,12 @@ use Rattle.nor_driver.specs.Call.{freshCall, openedOf}
 use borrow.Author.Needs.{needs}
 use Rattle.nor_driver.proofs.call.opened.Statement.{statement}
 use Rattle.nor_driver.proofs.call.opened.Tie as tie
-use Rattle.nor_driver.specs.Step.{settledOf}
+use Rattle.nor_driver.specs.Settle.{settledOf}
 use Rattle.nor_driver.specs.declared.state.SpiNorFlash.{SpiNorFlash}
 use Rattle.nor_driver.specs.declared.state.Stepped.{Stepped}
 use Rattle.spi_flash.specs.declared.loan.Takes.{Takes}
-use Rattle.nor_next.specs.declared.then.Then.{Then}
-use Rattle.nor_next.proofs.then.Then as T
+use Rattle.nor_steps.specs.declared.then.Then.{Then}
+use Rattle.nor_steps.proofs.then.Then as T
 
 enum-known-then : tie.Need-enum-known-then
 enum-known-then c = search needs
@@ -43,4 +43,4 @@ returns-2 c =
 
 pub opened-spec : {M : Type 1} → statement M
 opened-spec =
-    tie.close (tie.spec enum-known-then refused-requires flash-of-requires settle-requires returns returns-2)
+    tie.close (tie.spec enum-known-then refused-requires returns flash-of-requires settle-requires returns-2)

@@ -6,6 +6,9 @@ use Rattle.nor_driver.proofs.state.SpiNorFlash.begin.Tie as tie
 enum-told : tie.Need-enum-told
 enum-told c = search needs
 
+opening-of-requires : tie.Need-opening-of-requires
+opening-of-requires c κs = search needs
+
 idle-requires : tie.Need-idle-requires
 idle-requires c κs = search needs
 
@@ -17,7 +20,7 @@ refused-requires c κs = search needs
 
 returns : tie.Need-returns
 unfolding beginOf
-returns c = simp (c .before .enum-told .given .1, ← c .idle .ensures)
+returns c = simp (c .before .before .enum-told .given .1, ← c .idle .ensures, ← c .before .opening-of .ensures)
 
 returns-2 : tie.Need-returns-2
 unfolding beginOf
@@ -25,4 +28,5 @@ returns-2 c = simp (c .before .enum-told2 .given .1, ← c .refused .ensures)
 
 pub begin-spec : {M : Type 1} → statement M
 begin-spec =
-    tie.close (tie.spec enum-told idle-requires enum-told-2 refused-requires returns returns-2)
+    tie.close
+    (tie.spec enum-told opening-of-requires idle-requires returns enum-told-2 refused-requires returns-2)

@@ -1,7 +1,7 @@
-use Rattle.nor_driver.specs.Step.{stepOf}
+use Rattle.nor_reply.specs.Step.{stepOf}
 use borrow.Author.Needs.{needs}
-use Rattle.nor_driver.proofs.step.step.Statement.{statement}
-use Rattle.nor_driver.proofs.step.step.Tie as tie
+use Rattle.nor_reply.proofs.step.step.Statement.{statement}
+use Rattle.nor_reply.proofs.step.step.Tie as tie
 
 enum-told : tie.Need-enum-told
 enum-told c = search needs
@@ -35,9 +35,9 @@ step-spec =
     (tie.spec
     enum-told
     refused-requires
+    returns
     enum-known-running
     proceed-requires
-    returns
     same-length
     same-length-2
     returns-2)

@@ -1,26 +1,22 @@
 -- A step: one reply to the action that is out (document 01, "Actions and replies", "Who can cause a refusal").
 use Prim.Native.Nat.{ℕ}
-use mathlib.Core.Bool.{Bool, true, false}
 use mathlib.Core.List.{List}
 use lib.ListN.{length, take}
 use Rattle.qspi.specs.Choice.{pick}
-use Rattle.frames.specs.Frame.{AfterExchange, firstOf, actionOf, exchangeOf, deliveredBy}
-use Rattle.qspi.specs.declared.bus.Action.{Action}
-use Rattle.qspi.specs.declared.bus.Reply.{Reply}
+use Rattle.frames.specs.Frame.{AfterExchange, exchangeOf, deliveredBy}
 use Rattle.frames.specs.declared.frame.Exchanged.{Exchanged}
 use Rattle.frames.specs.declared.frame.Frame.{Frame}
+use Rattle.frames.specs.declared.frame.Outcome.{Outcome}
+use Rattle.qspi.specs.declared.bus.Action.{Action}
+use Rattle.qspi.specs.declared.bus.Reply.{Reply}
 use Rattle.spi_flash.specs.Loan.{readyOf}
 use Rattle.spi_flash.specs.declared.error.FlashError.{FlashError}
-use Rattle.spi_flash.specs.declared.loan.Takes.{Takes}
 use Rattle.nor_next.specs.Next.{nextOf}
-use Rattle.nor_answers.specs.declared.answer.Answer.{Answer}
-use Rattle.nor_phases.specs.declared.setup.Setup.{Setup}
-use Rattle.nor_next.specs.declared.then.Then.{Then}
-use Rattle.nor_driver.specs.declared.state.Given.{Given}
+use Rattle.nor_driver.specs.Settle.{refusedOf, startedOf, busyOf, settledOf}
 use Rattle.nor_driver.specs.declared.state.Job.{Job}
 use Rattle.nor_driver.specs.declared.state.Running.{Running}
 use Rattle.nor_driver.specs.declared.state.SpiNorFlash.{SpiNorFlash}
 use Rattle.nor_driver.specs.declared.state.Stepped.{Stepped}
 
 -- the result of a step, and the lent bytes after it
 pub record Moved : Type 0 where
@@ -31,42 +27,19 @@ pub record Moved : Type 0 where
 abbrev pub movedTo : Stepped → List ℕ → List ℕ → Moved
 movedTo x scratch buffer = record { stepped = x; scratch = scratch; buffer = buffer }
 
-abbrev pub flashOf : Setup → Bool → ℕ → Running → SpiNorFlash
-flashOf setup built delivered running = record { setup = setup; built = built; delivered = delivered; running = running }
-
-abbrev pub refusedOf : SpiNorFlash → FlashError → Stepped
-refusedOf flash error = record { flash = flash; given = Given.Refused error }
-
-abbrev pub startedOf : SpiNorFlash → Action → Stepped
-startedOf flash action = record { flash = flash; given = Given.Act action }
-
--- a call that has succeeded leaves the driver built
-abbrev pub endedOf : Setup → ℕ → Answer → Stepped
-endedOf setup delivered answer = record { flash = flashOf setup true delivered Running.Idle; given = Given.Ended answer }
-
-abbrev pub failedOf : SpiNorFlash → FlashError → Stepped
-failedOf flash error = record { flash = flashOf (flash .setup) (flash .built) (flash .delivered) Running.Idle; given = Given.Failed error }
-
--- gives out the first action of the next transfer, or ends the call
-unfoldable pub settledOf : SpiNorFlash → Takes → Then → Stepped
-settledOf flash takes (Then.Go setup transfer phase) =
-    startedOf
-    (flashOf setup (flash .built) (flash .delivered) (Running.Busy (record { phase = phase; frame = firstOf transfer; takes = takes })))
-    (actionOf (firstOf transfer))
-settledOf flash takes (Then.End setup answer) = endedOf setup (flash .delivered) answer
-settledOf flash takes (Then.Fail error) = failedOf flash error
-
 -- another action of the transfer that is out
 abbrev pub gaveOf : SpiNorFlash → Job → Frame → ℕ → Action → Stepped
 gaveOf flash job next delivered action =
-    startedOf
-    (flashOf (flash .setup) (flash .built) delivered (Running.Busy (record { phase = job .phase; frame = next; takes = job .takes })))
-    action
+    startedOf (busyOf (flash .setup) (flash .built) delivered (job .phase) next (job .takes)) action
+
+-- the transfer that was out is over
+abbrev pub overOf : SpiNorFlash → Job → Outcome → Stepped
+overOf flash job outcome = settledOf flash (job .takes) (nextOf (flash .setup) (job .phase) outcome)
 
 abbrev pub exchangedThen : SpiNorFlash → Job → ℕ → Exchanged → Stepped
 exchangedThen flash job delivered Exchanged.Misfit = refusedOf flash FlashError.Misfit
 exchangedThen flash job delivered (Exchanged.Gave next action) = gaveOf flash job next delivered action
-exchangedThen flash job delivered (Exchanged.Over outcome) = settledOf flash (job .takes) (nextOf (flash .setup) (job .phase) outcome)
+exchangedThen flash job delivered (Exchanged.Over outcome) = overOf flash job outcome
 
 abbrev pub afterwards : SpiNorFlash → Job → ℕ → AfterExchange → Moved
 afterwards flash job delivered x = movedTo (exchangedThen flash job delivered (x .exchanged)) (x .scratch) (x .buffer)

@@ -1,7 +1,7 @@
-use Rattle.nor_driver.specs.Step.{proceedOf}
+use Rattle.nor_reply.specs.Step.{proceedOf}
 use borrow.Author.Needs.{needs}
-use Rattle.nor_driver.proofs.step.proceed.Statement.{statement}
-use Rattle.nor_driver.proofs.step.proceed.Tie as tie
+use Rattle.nor_reply.proofs.step.proceed.Statement.{statement}
+use Rattle.nor_reply.proofs.step.proceed.Tie as tie
 
 delivered-by-requires : tie.Need-delivered-by-requires
 delivered-by-requires c κs = search needs
@@ -18,24 +18,6 @@ enum-told c = search needs
 refused-requires : tie.Need-refused-requires
 refused-requires c κs = search needs
 
-enum-known-frame : tie.Need-enum-known-frame
-enum-known-frame c = search needs
-
-gave-requires : tie.Need-gave-requires
-gave-requires c κs = search needs
-
-enum-known-outcome : tie.Need-enum-known-outcome
-enum-known-outcome c = search needs
-
-next-requires : tie.Need-next-requires
-next-requires c κs = search needs
-
-settle-requires : tie.Need-settle-requires
-settle-requires c κs = search needs
-
-refused-requires-2 : tie.Need-refused-requires-2
-refused-requires-2 c κs = search needs
-
 same-length : tie.Need-same-length
 same-length c = search needs
 
@@ -45,6 +27,12 @@ same-length-2 c = search needs
 returns : tie.Need-returns
 unfolding proceedOf
 returns c = simp (c .before .enum-told .given .1, c .before .before .before .before .before .before .before .before .before .before .if1 .taken, ← c .refused .ensures, ← c .before .before .before .before .before .before .before .exchange .ensures, ← c .before .before .before .before .before .before .before .before .before .before .before .ready .ensures, ← c .before .before .before .before .before .before .before .before .before .before .before .before .delivered-by .ensures)
+
+enum-known-frame : tie.Need-enum-known-frame
+enum-known-frame c = search needs
+
+gave-requires : tie.Need-gave-requires
+gave-requires c κs = search needs
 
 same-length-3 : tie.Need-same-length-3
 same-length-3 c = search needs
@@ -56,6 +44,12 @@ returns-2 : tie.Need-returns-2
 unfolding proceedOf
 returns-2 c = simp (c .before .before .frame .given .1, c .before .before .before .before .before .before .before .before .before .before .before .if1 .taken, ← c .gave .ensures, ← c .before .before .before .before .before .before .before .before .exchange .ensures, ← c .before .before .before .before .before .before .before .before .before .before .before .before .ready .ensures, ← c .before .before .before .before .before .before .before .before .before .before .before .before .before .delivered-by .ensures)
 
+enum-known-outcome : tie.Need-enum-known-outcome
+enum-known-outcome c = search needs
+
+over-requires : tie.Need-over-requires
+over-requires c κs = search needs
+
 same-length-5 : tie.Need-same-length-5
 same-length-5 c = search needs
 
@@ -64,7 +58,10 @@ same-length-6 c = search needs
 
 returns-3 : tie.Need-returns-3
 unfolding proceedOf
-returns-3 c = simp (c .before .before .before .before .outcome .given .1, c .before .before .before .before .before .before .before .before .before .before .before .before .before .if1 .taken, ← c .settle .ensures, ← c .before .next .ensures, ← c .before .before .before .before .before .before .before .before .before .before .exchange .ensures, ← c .before .before .before .before .before .before .before .before .before .before .before .before .before .before .ready .ensures, ← c .before .before .before .before .before .before .before .before .before .before .before .before .before .before .before .delivered-by .ensures)
+returns-3 c = simp (c .before .before .outcome .given .1, c .before .before .before .before .before .before .before .before .before .before .before .if1 .taken, ← c .over .ensures, ← c .before .before .before .before .before .before .before .before .exchange .ensures, ← c .before .before .before .before .before .before .before .before .before .before .before .before .ready .ensures, ← c .before .before .before .before .before .before .before .before .before .before .before .before .before .delivered-by .ensures)
+
+refused-requires-2 : tie.Need-refused-requires-2
+refused-requires-2 c κs = search needs
 
 returns-4 : tie.Need-returns-4
 unfolding proceedOf
@@ -79,19 +76,18 @@ proceed-spec =
     exchange-requires
     enum-told
     refused-requires
-    enum-known-frame
-    gave-requires
-    enum-known-outcome
-    next-requires
-    settle-requires
-    refused-requires-2
     same-length
     same-length-2
     returns
+    enum-known-frame
+    gave-requires
     same-length-3
     same-length-4
     returns-2
+    enum-known-outcome
+    over-requires
     same-length-5
     same-length-6
     returns-3
+    refused-requires-2
     returns-4)

@@ -1,0 +1,118 @@
+// What a step comes to: the next transfer's first action, the call's end, or a refusal.
+use crate::state::Given;
+use crate::state::Job;
+use crate::state::Running;
+use crate::state::SpiNorFlash;
+use crate::state::Stepped;
+use frames::frame;
+use frames::frame::Frame;
+use nor_answers::answer::Answer;
+use nor_phases::phase::Phase;
+use nor_phases::setup::Setup;
+use nor_steps::then::Then;
+use qspi::bus::Action;
+use qspi::transfer::Transfer;
+use spi_flash::error::FlashError;
+use spi_flash::loan::Takes;
+ghost use mathlib.Core.Path.{_≡_};
+ghost use Rattle.nor_driver.specs.Settle.{refusedOf, flashOf, startedOf, endedOf, failedOf, busyOf, startOf, settledOf};
+
+// The state unchanged, and why.
+pub fn refused(flash: SpiNorFlash, error: FlashError) -> Stepped
+    ensures { λ r. ⌜ r ≡ refusedOf flash error ⌝ }
+{
+    Stepped {
+        flash: flash,
+        given: Given::Refused(error),
+    }
+}
+
+pub fn flash_of(setup: Setup, built: bool, delivered: usize, running: Running) -> SpiNorFlash
+    ensures { λ r. ⌜ r ≡ flashOf setup built delivered running ⌝ }
+{
+    SpiNorFlash {
+        setup: setup,
+        built: built,
+        delivered: delivered,
+        running: running,
+    }
+}
+
+pub fn acting(flash: SpiNorFlash, action: Action) -> Stepped
+    ensures { λ r. ⌜ r ≡ startedOf flash action ⌝ }
+{
+    Stepped {
+        flash: flash,
+        given: Given::Act(action),
+    }
+}
+
+fn succeeded(setup: Setup, delivered: usize, answer: Answer) -> Stepped
+    ensures { λ r. ⌜ r ≡ endedOf setup delivered answer ⌝ }
+{
+    Stepped {
+        flash: flash_of(setup, true, delivered, Running::Idle),
+        given: Given::Ended(answer),
+    }
+}
+
+fn failed(flash: SpiNorFlash, error: FlashError) -> Stepped
+    ensures { λ r. ⌜ r ≡ failedOf flash error ⌝ }
+{
+    let setup = flash.setup;
+    Stepped {
+        flash: flash_of(setup, flash.built, flash.delivered, Running::Idle),
+        given: Given::Failed(error),
+    }
+}
+
+// The driver with a transfer out.
+pub fn busy(
+    setup: Setup,
+    built: bool,
+    delivered: usize,
+    phase: Phase,
+    frame: Frame,
+    takes: Takes,
+) -> SpiNorFlash
+    ensures { λ r. ⌜ r ≡ busyOf setup built delivered phase frame takes ⌝ }
+{
+    let job = Job {
+        phase: phase,
+        frame: frame,
+        takes: takes,
+    };
+    flash_of(setup, built, delivered, Running::Busy(job))
+}
+
+// Gives out the first action of a transfer.
+fn start(
+    flash: SpiNorFlash,
+    takes: Takes,
+    setup: Setup,
+    transfer: Transfer,
+    phase: Phase,
+) -> Stepped
+    ensures { λ r. ⌜ r ≡ startOf flash takes setup transfer phase ⌝ }
+{
+    let first = frame::first(transfer);
+    acting(
+        busy(setup, flash.built, flash.delivered, phase, first, takes),
+        frame::pending(first),
+    )
+}
+
+// Goes on with the next transfer, or ends the call. A call that has succeeded leaves the driver built.
+pub fn settle(flash: SpiNorFlash, takes: Takes, then: Then) -> Stepped
+    ensures { λ r. ⌜ r ≡ settledOf flash takes then ⌝ }
+{
+    match then {
+        Then::Go {
+            setup,
+            transfer,
+            phase,
+        } => return start(flash, takes, setup, transfer, phase),
+        Then::End { setup, answer } => return succeeded(setup, flash.delivered, answer),
+        Then::Fail(error) => return failed(flash, error),
+    }
+}
