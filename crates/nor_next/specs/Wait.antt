@@ -33,10 +33,18 @@ resumeTask setup (Task.Unprotect2 before status2) = read1Then setup (Phase.Unpro
 resumeTask setup (Task.PageProgram offset len done) = verifyThen setup offset len done
 resumeTask setup (Task.Erase kind address end) = eraseFrom setup (afterUnit (setup .device) kind address) end
 
+-- wait_ready: `self.read_status1()?`
+abbrev pub lookThen : Setup → Task → ℕ → Then
+lookThen setup task waited = read1Then setup (Phase.Looking task waited)
+
+-- wait_ready: `self.delay.delay_us(..)`
+abbrev pub pauseThen : Setup → Task → ℕ → ℕ → Then
+pauseThen setup task us waited = goTo setup (Transfer.Pause us) (Phase.Pausing task waited)
+
 -- wait_ready: a step of it
 unfoldable pub waitThen : Setup → Task → Wait → Then
-waitThen setup task Wait.Look = read1Then setup (Phase.Looking task 0)
-waitThen setup task (Wait.Pause us waited) = goTo setup (Transfer.Pause us) (Phase.Pausing task waited)
+waitThen setup task Wait.Look = lookThen setup task 0
+waitThen setup task (Wait.Pause us waited) = pauseThen setup task us waited
 waitThen setup task Wait.Ready = resumeTask setup task
 waitThen setup task Wait.Timeout = Then.Fail FlashError.Timeout
 

@@ -7,7 +7,6 @@ use nor_pages::write;
 use nor_phases::phase::Phase;
 use nor_phases::phase::Task;
 use nor_phases::setup::Setup;
-use nor_phases::transfer;
 use nor_steps::go;
 use nor_steps::protection;
 use nor_steps::register;
@@ -40,28 +39,10 @@ fn after(setup: Setup, phase: Phase, v: u64) -> Then
         Phase::UniqueId => return go::end(setup, Answer::UniqueId(v)),
         Phase::QuadEnabled2 => return register::quad_flag(setup, b),
         Phase::QuadEnabled1 => return go::end(setup, Answer::Flag(status::quad_enabled1(b))),
-        Phase::EnableCheck2 => {
-            return go::done_if(
-                status::quad_enabled2(b),
-                setup,
-                go::read1(setup, Phase::EnableCheck1),
-            );
-        }
-        Phase::EnableCheck1 => {
-            return go::done_if(
-                status::quad_enabled1(b),
-                setup,
-                go::read2(setup, Phase::EnableRead2),
-            );
-        }
+        Phase::EnableCheck2 => return register::enable_check2(setup, b),
+        Phase::EnableCheck1 => return register::enable_check1(setup, b),
         Phase::EnableRead2 => return go::enabled(setup, Task::EnableQuad2(b)),
-        Phase::EnableVerify2 => {
-            return go::done_if(
-                status::quad_enabled2(b),
-                setup,
-                go::read1(setup, Phase::EnableRead1),
-            );
-        }
+        Phase::EnableVerify2 => return register::enable_verify2(setup, b),
         Phase::EnableRead1 => return go::enabled(setup, Task::EnableQuad1(b)),
         Phase::EnableVerify1 => return go::supported_if(status::quad_enabled1(b), setup),
         Phase::DisableRead2 => return register::disable_first(setup, b),
@@ -70,18 +51,8 @@ fn after(setup: Setup, phase: Phase, v: u64) -> Then
         Phase::DisableVerify1 => return go::supported_if(!status::quad_enabled1(b), setup),
         Phase::UnprotectRead1 => return go::read2(setup, Phase::UnprotectRead2(b)),
         Phase::UnprotectRead2(before) => return protection::unprotect_first(setup, before, b),
-        Phase::UnprotectAfter(before) => {
-            return go::end(
-                setup,
-                Answer::Unprotected {
-                    before: before,
-                    after: b,
-                },
-            );
-        }
-        Phase::Reading { offset, len, done } => {
-            return read::read_from(setup, offset, len, transfer::past_chunk(len, done));
-        }
+        Phase::UnprotectAfter(before) => return protection::unprotected(setup, before, b),
+        Phase::Reading { offset, len, done } => return read::piece_read(setup, offset, len, done),
         Phase::Verifying { offset, len, done } => {
             return write::verified(setup, offset, len, done, v);
         }
@@ -89,15 +60,7 @@ fn after(setup: Setup, phase: Phase, v: u64) -> Then
         Phase::Latching(task) => return wait::latched(setup, task, b),
         Phase::Sending(task) => return wait::sent(setup, task),
         Phase::Looking { task, waited } => return wait::looked(setup, task, waited, b),
-        Phase::Pausing { task, waited } => {
-            return go::read1(
-                setup,
-                Phase::Looking {
-                    task: task,
-                    waited: waited,
-                },
-            );
-        }
+        Phase::Pausing { task, waited } => return wait::look(setup, task, waited),
     }
 }
 

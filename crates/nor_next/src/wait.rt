@@ -15,8 +15,9 @@ use spi_flash::wait::Wait;
 use spi_nor::opcode;
 use spi_nor::status;
 ghost use mathlib.Core.Path.{_≡_};
-ghost use Rattle.nor_next.specs.Wait.{latchedThen, resumeTask, waitThen, sentThen, lookedThen};
+ghost use Rattle.nor_next.specs.Wait.{latchedThen, resumeTask, lookThen, pauseThen, waitThen, sentThen, lookedThen};
 
+// write_enable has been sent: the command goes out where the latch is set.
 pub fn latched(setup: Setup, task: Task, status1: u8) -> Then
     ensures { λ r. ⌜ r ≡ latchedThen setup task status1 ⌝ }
 {
@@ -57,29 +58,37 @@ fn resume(setup: Setup, task: Task) -> Then
     }
 }
 
+pub fn look(setup: Setup, task: Task, waited: u32) -> Then
+    ensures { λ r. ⌜ r ≡ lookThen setup task waited ⌝ }
+{
+    go::read1(
+        setup,
+        Phase::Looking {
+            task: task,
+            waited: waited,
+        },
+    )
+}
+
+fn pause(setup: Setup, task: Task, us: u32, waited: u32) -> Then
+    ensures { λ r. ⌜ r ≡ pauseThen setup task us waited ⌝ }
+{
+    go::go(
+        setup,
+        Transfer::Pause(us),
+        Phase::Pausing {
+            task: task,
+            waited: waited,
+        },
+    )
+}
+
 fn waited_then(setup: Setup, task: Task, step: Wait) -> Then
     ensures { λ r. ⌜ r ≡ waitThen setup task step ⌝ }
 {
     match step {
-        Wait::Look => {
-            return go::read1(
-                setup,
-                Phase::Looking {
-                    task: task,
-                    waited: 0,
-                },
-            );
-        }
-        Wait::Pause { us, waited } => {
-            return go::go(
-                setup,
-                Transfer::Pause(us),
-                Phase::Pausing {
-                    task: task,
-                    waited: waited,
-                },
-            );
-        }
+        Wait::Look => return look(setup, task, 0),
+        Wait::Pause { us, waited } => return pause(setup, task, us, waited),
         Wait::Ready => return resume(setup, task),
         Wait::Timeout => return Then::Fail(FlashError::Timeout),
     }

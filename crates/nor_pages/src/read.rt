@@ -7,7 +7,9 @@ use nor_steps::go;
 use nor_steps::then::Then;
 use qspi::transfer::Sink;
 use spi_flash::error::FlashError;
+ghost use Prim.Native.Nat.{_+_};
 ghost use mathlib.Core.Path.{_≡_};
+ghost use Rattle.nor_phases.specs.Transfer.{chunkOf};
 ghost use Rattle.nor_pages.specs.Read.{readFrom, readThen};
 
 // The next piece of `read`, or its end.
@@ -44,4 +46,11 @@ pub fn read_then(setup: Setup, offset: u32, len: usize) -> Then
     } else {
         Then::Fail(FlashError::OutOfBounds)
     }
+}
+
+// `done += length`
+pub fn piece_read(setup: Setup, offset: u32, len: usize, done: usize) -> Then
+    ensures { λ r. ⌜ r ≡ readFrom setup offset len (done + chunkOf len done) ⌝ }
+{
+    read_from(setup, offset, len, transfer::past_chunk(len, done))
 }

@@ -1,13 +1,16 @@
 // unprotect: the block protection in both status registers.
 use crate::go;
 use crate::then::Then;
+use nor_answers::answer::Answer;
 use nor_phases::phase::Phase;
 use nor_phases::phase::Task;
 use nor_phases::setup::Setup;
 use spi_nor::status;
 ghost use mathlib.Core.Path.{_≡_};
+ghost use Rattle.nor_steps.specs.Go.{endWith};
 ghost use Rattle.nor_steps.specs.Protection.{unprotectFirst, unprotectSecond};
 
+// `if wanted_sr1 != before`
 pub fn unprotect_first(setup: Setup, before: u8, status2: u8) -> Then
     ensures { λ r. ⌜ r ≡ unprotectFirst setup before status2 ⌝ }
 {
@@ -24,6 +27,7 @@ pub fn unprotect_first(setup: Setup, before: u8, status2: u8) -> Then
     }
 }
 
+// `if wanted_sr2 != sr2`
 pub fn unprotect_second(setup: Setup, before: u8, status2: u8) -> Then
     ensures { λ r. ⌜ r ≡ unprotectSecond setup before status2 ⌝ }
 {
@@ -38,4 +42,17 @@ pub fn unprotect_second(setup: Setup, before: u8, status2: u8) -> Then
             },
         )
     }
+}
+
+// `Ok((before, after))`
+pub fn unprotected(setup: Setup, before: u8, after: u8) -> Then
+    ensures { λ r. ⌜ r ≡ endWith setup (Answer.Unprotected before after) ⌝ }
+{
+    go::end(
+        setup,
+        Answer::Unprotected {
+            before: before,
+            after: after,
+        },
+    )
 }

@@ -12,6 +12,8 @@ use spi_nor::config::NorJedecId;
 use spi_nor::config::QuadSetting;
 use spi_nor::status;
 ghost use mathlib.Core.Path.{_≡_};
+ghost use Rattle.spi_nor.specs.Status.{quadEnabled1Of, quadEnabled2Of};
+ghost use Rattle.nor_steps.specs.Go.{read1Then, read2Then, doneIf};
 ghost use Rattle.nor_steps.specs.Register.{idOf, deviceFor, identifiedThen, quadFlag, disableFirst, disableSecond};
 
 // The largest page that a read-back is made of.
@@ -62,6 +64,7 @@ pub fn identified(setup: Setup, v: u64) -> Then
     }
 }
 
+// quad_enabled, once status register 2 has been read.
 pub fn quad_flag(setup: Setup, status2: u8) -> Then
     ensures { λ r. ⌜ r ≡ quadFlag setup status2 ⌝ }
 {
@@ -71,6 +74,43 @@ pub fn quad_flag(setup: Setup, status2: u8) -> Then
         go::read1(setup, Phase::QuadEnabled1)
     }
 }
+
+// ---- enable_quad
+
+// The bit in status register 2, as it was before.
+pub fn enable_check2(setup: Setup, status2: u8) -> Then
+    ensures { λ r. ⌜ r ≡ doneIf (quadEnabled2Of status2) setup (read1Then setup Phase.EnableCheck1) ⌝ }
+{
+    go::done_if(
+        status::quad_enabled2(status2),
+        setup,
+        go::read1(setup, Phase::EnableCheck1),
+    )
+}
+
+// The bit in status register 1, as it was before.
+pub fn enable_check1(setup: Setup, status1: u8) -> Then
+    ensures { λ r. ⌜ r ≡ doneIf (quadEnabled1Of status1) setup (read2Then setup Phase.EnableRead2) ⌝ }
+{
+    go::done_if(
+        status::quad_enabled1(status1),
+        setup,
+        go::read2(setup, Phase::EnableRead2),
+    )
+}
+
+// The bit in status register 2, read back: a part that has not taken it has it in status register 1.
+pub fn enable_verify2(setup: Setup, status2: u8) -> Then
+    ensures { λ r. ⌜ r ≡ doneIf (quadEnabled2Of status2) setup (read1Then setup Phase.EnableRead1) ⌝ }
+{
+    go::done_if(
+        status::quad_enabled2(status2),
+        setup,
+        go::read1(setup, Phase::EnableRead1),
+    )
+}
+
+// ---- disable_quad
 
 pub fn disable_first(setup: Setup, status2: u8) -> Then
     ensures { λ r. ⌜ r ≡ disableFirst setup status2 ⌝ }

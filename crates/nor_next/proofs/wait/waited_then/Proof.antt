@@ -6,14 +6,14 @@ use Rattle.nor_next.proofs.wait.waited_then.Tie as tie
 enum-told : tie.Need-enum-told
 enum-told c = search needs
 
-read1-requires : tie.Need-read1-requires
-read1-requires c κs = search needs
+look-requires : tie.Need-look-requires
+look-requires c κs = search needs
 
 enum-known-step : tie.Need-enum-known-step
 enum-known-step c = search needs
 
-go-requires : tie.Need-go-requires
-go-requires c κs = search needs
+pause-requires : tie.Need-pause-requires
+pause-requires c κs = search needs
 
 enum-told-2 : tie.Need-enum-told-2
 enum-told-2 c = search needs
@@ -26,11 +26,11 @@ enum-told-3 c = search needs
 
 returns : tie.Need-returns
 unfolding waitThen
-returns c = simp (c .before .enum-told .given .1, ← c .read1 .ensures)
+returns c = simp (c .before .enum-told .given .1, ← c .look .ensures)
 
 returns-2 : tie.Need-returns-2
 unfolding waitThen
-returns-2 c = simp (c .before .before .step .given .1, ← c .go .ensures)
+returns-2 c = simp (c .before .before .step .given .1, ← c .pause .ensures)
 
 returns-3 : tie.Need-returns-3
 unfolding waitThen
@@ -45,10 +45,10 @@ waited-then-spec =
     tie.close
     (tie.spec
     enum-told
-    read1-requires
+    look-requires
     returns
     enum-known-step
-    go-requires
+    pause-requires
     returns-2
     enum-told-2
     resume-requires
