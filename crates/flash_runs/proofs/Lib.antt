@@ -13,6 +13,7 @@ pub mod SameAsRust
 pub mod Delivered
 pub mod Bills
 pub mod Lent
+pub mod Judged
 pub mod Promises
 pub mod Watching
 pub mod WatchedRuns
