@@ -12,7 +12,7 @@ use Rattle.qspi.specs.Command.{scratchLeast}
 use Rattle.qspi.specs.Shown.{Shown, shownOf}
 use Rattle.qspi.specs.declared.bus.Action.{Action}
 use Rattle.qspi.specs.declared.bus.Reply.{Reply}
-use Rattle.frames.specs.Frame.{firstOf, actionOf, exchangeOf, advancedOf, takenIn, gave, deliveredBy}
+use Rattle.frames.specs.Frame.{firstOf, actionOf, exchangeOf, advancedOf, takenIn, gave}
 use Rattle.frames.specs.declared.frame.Advanced.{Advanced}
 use Rattle.spi_flash.specs.Loan.{Lent, readyFor}
 use Rattle.spi_flash.specs.Run as Run
@@ -21,10 +21,10 @@ use Rattle.spi_flash.specs.Machine.{refusing}
 use Rattle.spi_flash.specs.declared.error.FlashError.{FlashError}
 use Rattle.spi_flash.specs.declared.loan.Takes.{Takes}
 use Rattle.qspi.proofs.Cases.{by-cases}
-use Rattle.flash_runs.specs.Driver.{Left, Sort, takesOf, worksOn, Driver, sortAt, takesAt, boundedAt, runAt, flashAfter}
-use Rattle.flash_runs.specs.Refusals.{hostRefusal, restRefusal, RefusedAs, awaits, outThen, outAfter, replyRefusal, refusalIn, callRefusal, RefusesJust}
+use Rattle.flash_runs.specs.Driver.{Left, Sort, takesOf, worksOn, Driver, sortAt, takesAt, flashAfter}
+use Rattle.flash_runs.specs.Refusals.{restRefusal, RefusedAs, awaits, outThen, outAfter, replyRefusal, refusalIn, RefusesJust}
 use Rattle.flash_runs.proofs.General as General
-use Rattle.flash_runs.proofs.General.{Then, Opening, constructing, telling, releasing, working, Parts, Job, jobOf, Running, idle, busy, isBusy, Flash, flashOf, Step, settled, told, opened, freed, constructed, begun, openedAs, afterwards, proceeds, general}
+use Rattle.flash_runs.proofs.General.{Then, Opening, constructing, telling, releasing, working, Parts, Job, Running, idle, busy, isBusy, Flash, flashOf, Step, settled, told, opened, freed, constructed, begun, openedAs, afterwards, proceeds, general}
 use Rattle.flash_runs.proofs.Supplies.{OpensAs, Known}
 use Rattle.flash_runs.proofs.Steps.{step-view}
 use Rattle.flash_runs.proofs.Runs.{viewed, same-run, same-state}

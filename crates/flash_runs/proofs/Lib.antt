@@ -19,3 +19,4 @@ pub mod Watching
 pub mod WatchedRuns
 pub mod Watchers
 pub mod Least
+pub mod Shams

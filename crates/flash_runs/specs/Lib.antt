@@ -4,3 +4,4 @@ pub mod SameAsRust
 pub mod Refusals
 pub mod Promises
 pub mod Watch
+pub mod Shams

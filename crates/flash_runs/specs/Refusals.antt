@@ -1,7 +1,7 @@
 -- Who is turned away, and why (document 01, "Who can cause a refusal"): the calls and replies that the driver refuses are these and no
 -- others, so that a reply that fits is always taken.
 use Prim.Native.Nat.{ℕ}
-use mathlib.Core.Bool.{Bool, true, false, _&&_}
+use mathlib.Core.Bool.{Bool, false, _&&_}
 use mathlib.Core.Option.{Option, none, some}
 use mathlib.Core.Path.{_≡_}
 use mathlib.Core.List.{List, [], _∷_}

@@ -11,7 +11,7 @@ use Rattle.flash_runs.specs.Reading.{bytesRead}
 use Rattle.flash_runs.specs.Watch.{watched, Succeeded}
 use Rattle.nand_rust.specs.Bound.{pagesTouched}
 use Rattle.nand_rust.specs.Observer.{ReadByte, readByte}
-use Rattle.nand_rust.specs.Shams.{Seen, ShamsRuledOut}
+use Rattle.nand_rust.specs.Shams.{ShamsRuledOut}
 
 -- ---- what tells two lists apart
 
