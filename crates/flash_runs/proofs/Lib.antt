@@ -13,8 +13,10 @@ pub mod SameAsRust
 pub mod Delivered
 pub mod Bills
 pub mod Lent
+pub mod Judged
 pub mod Promises
 pub mod Watching
 pub mod WatchedRuns
 pub mod Watchers
 pub mod Least
+pub mod Shams

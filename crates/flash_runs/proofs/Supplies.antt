@@ -19,6 +19,7 @@ use Rattle.spi_flash.specs.Seen.{selectAfter}
 use Rattle.spi_flash.specs.declared.loan.Takes.{Takes}
 use Rattle.spi_flash.proofs.Unread.{bufferReads}
 use Rattle.flash_runs.specs.Driver.{Left, leaving, Sort, constructs, tells, releases, uses, takesOf, worksOn, Driver}
+pub use Rattle.flash_runs.specs.Shams.{Asks}
 use Rattle.flash_runs.proofs.General as General
 use Rattle.flash_runs.proofs.General.{Then, Opening, constructing, telling, releasing, working, Parts, Running, isBusy, Flash, flashOf, Place, place, decide, decideNext, general}
 use Rattle.flash_runs.proofs.Filling.{Fills}
@@ -65,12 +66,6 @@ abbrev pub SelectsFirst : {S P A : Type 0} → Then S P A → Type 0
 SelectsFirst (General.go s t phase) = Selects t
 SelectsFirst (General.end s answer) = Unit {0}
 SelectsFirst (General.fail error) = Unit {0}
-
--- a program that uses the bus
-abbrev pub Asks : {A : Type 0} → Prog A → Type 0
-Asks (ret a) = ⊥
-Asks (fail e) = ⊥
-Asks (ask t k) = Unit {0}
 
 module _ {F C S A : Type 0} (driver : Driver F C S A) (s : S) (c : C) (b d : ℕ) where
   -- what the call works on is within the bounds

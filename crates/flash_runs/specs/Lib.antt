@@ -1,5 +1,7 @@
 pub mod Driver
 pub mod Reading
 pub mod SameAsRust
+pub mod Refusals
 pub mod Promises
 pub mod Watch
+pub mod Shams

@@ -14,6 +14,7 @@ use Rattle.spi_flash.specs.Seen.{Undisturbed, KeepsBuffer, EndsHigh}
 use Rattle.spi_flash.specs.declared.error.FlashError.{FlashError}
 use Rattle.flash_runs.specs.Driver.{Left, Driver, takesBuffer, takesAt, boundAt, actionsAt, endsAt, runAt, flashAfter}
 use Rattle.flash_runs.specs.Reading.{bytesRead, ChangesRead, HoldsRead}
+use Rattle.flash_runs.specs.Refusals.{RefusesJust}
 use Rattle.flash_runs.specs.SameAsRust.{Demand2}
 
 -- a call has begun when it gives out its first action
@@ -101,6 +102,7 @@ module _ {F C S A : Type 0} (driver : Driver F C S A) where
 
   -- all of them
   pub record Promises : Type 0 where
+    pub refuses : RefusesJust driver
     pub refusals : RefusalsKeep
     pub demand1 : Demand1
     pub demand2 : Demand2 driver

@@ -12,6 +12,7 @@ use Rattle.spi_nand.specs.declared.status.Status.{Status}
 use Rattle.nand_answers.specs.declared.answer.Answer.{Answer}
 use Rattle.nand_phases.specs.declared.phase.Asked.{Asked}
 use Rattle.nand_phases.specs.declared.phase.EnableFor.{EnableFor}
+use Rattle.nand_phases.specs.declared.phase.EnableStep.{EnableStep}
 use Rattle.nand_phases.specs.declared.phase.EraseFor.{EraseFor}
 use Rattle.nand_phases.specs.declared.phase.Phase.{Phase}
 use Rattle.nand_phases.specs.declared.phase.ProgramFor.{ProgramFor}
@@ -27,7 +28,7 @@ use Rattle.nand_pages.specs.Page.{judgedThen, programThen, programmedThen}
 use Rattle.nand_pages.specs.Read.{pieceReadThen}
 use Rattle.nand_steps.specs.Register.{idOf, identifiedThen, configureThen, checkConfiguration, unprotectThen, broughtUp, disableQuad, quadDisabled}
 use Rattle.nand_steps.specs.declared.then.Then.{Then}
-use Rattle.nand_next.specs.Wait.{lookThen, sentThen, lookedThen}
+use Rattle.nand_next.specs.Wait.{waitingThen}
 
 -- buffer[0] of a register's one byte
 abbrev pub byteOf : ℕ → ℕ
@@ -59,6 +60,11 @@ enabledThen setup (EnableFor.MarkBad block) = fillFrom setup block 0
 unfoldable pub latchedThen : Setup → EnableFor → Status → Then
 latchedThen setup why status = pick (writeEnabledOf status) (enabledThen setup why) (Then.Fail FlashError.WriteEnableFailed)
 
+-- what follows each step of write_enable
+unfoldable pub enablingThen : Setup → EnableFor → EnableStep → Status → Then
+enablingThen setup why EnableStep.Command status = look setup (Phase.Enabling why EnableStep.Latch)
+enablingThen setup why EnableStep.Latch status = latchedThen setup why status
+
 -- ---- what was asked
 
 -- jedec_id, reset_and_identify; bring_up
@@ -87,11 +93,8 @@ answeredThen setup (Asked.Erased why) v = erasedThen setup why (statusOf (byteOf
 unfoldable pub afterPhase : Setup → Phase → ℕ → Then
 afterPhase setup Phase.Raised v = reset setup (ResetFor.Identify Within.BringUp)
 afterPhase setup (Phase.Asking asked) v = answeredThen setup asked v
-afterPhase setup (Phase.Enabling why) v = look setup (Phase.Latching why)
-afterPhase setup (Phase.Latching why) v = latchedThen setup why (statusOf (byteOf v))
-afterPhase setup (Phase.Sending task) v = sentThen setup task
-afterPhase setup (Phase.Looking task waited) v = lookedThen setup task waited (statusOf (byteOf v))
-afterPhase setup (Phase.Pausing task waited) v = lookThen setup task waited
+afterPhase setup (Phase.Enabling why at) v = enablingThen setup why at (statusOf (byteOf v))
+afterPhase setup (Phase.Waiting task at waited) v = waitingThen setup task at waited (statusOf (byteOf v))
 afterPhase setup Phase.ReadingCache v = done setup
 afterPhase setup Phase.Comparing v = comparedThen setup v
 afterPhase setup (Phase.ReadingMarker why) v = markerThen setup why (byteOf v)

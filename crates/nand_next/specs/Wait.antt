@@ -12,6 +12,7 @@ use Rattle.nand_phases.specs.declared.phase.Asked.{Asked}
 use Rattle.nand_phases.specs.declared.phase.Phase.{Phase}
 use Rattle.nand_phases.specs.declared.phase.ResetFor.{ResetFor}
 use Rattle.nand_phases.specs.declared.phase.Task.{Task}
+use Rattle.nand_phases.specs.declared.phase.WaitStep.{WaitStep}
 use Rattle.nand_phases.specs.declared.setup.Setup.{Setup}
 use Rattle.nand_steps.specs.Go.{goTo, done, ask, askId, look}
 use Rattle.nand_pages.specs.Page.{loadedThen}
@@ -33,11 +34,11 @@ resumeTask setup (Task.Erase why) = ask setup REG-STATUS (Asked.Erased why)
 
 -- `self.read_status()?.busy()`
 abbrev pub lookThen : Setup → Task → ℕ → Then
-lookThen setup task waited = look setup (Phase.Looking task waited)
+lookThen setup task waited = look setup (Phase.Waiting task WaitStep.Look waited)
 
 -- `self.delay.delay_us(..)`
 abbrev pub pauseThen : Setup → Task → ℕ → ℕ → Then
-pauseThen setup task us waited = goTo setup (Transfer.Pause us) (Phase.Pausing task waited)
+pauseThen setup task us waited = goTo setup (Transfer.Pause us) (Phase.Waiting task WaitStep.Pause waited)
 
 -- a step of the wait
 unfoldable pub waitThen : Setup → Task → Wait → Then
@@ -52,3 +53,9 @@ sentThen setup task = waitThen setup task (firstWait (timingsOf (taskOperation t
 
 abbrev pub lookedThen : Setup → Task → ℕ → Status → Then
 lookedThen setup task waited status = waitThen setup task (nextWait (timingsOf (taskOperation task)) waited (busyOf status))
+
+-- what follows each step; a status is looked at only behind a look
+unfoldable pub waitingThen : Setup → Task → WaitStep → ℕ → Status → Then
+waitingThen setup task WaitStep.Command waited status = sentThen setup task
+waitingThen setup task WaitStep.Look waited status = lookedThen setup task waited status
+waitingThen setup task WaitStep.Pause waited status = lookThen setup task waited

@@ -8,6 +8,7 @@ use nand_pages::page;
 use nand_pages::read;
 use nand_phases::phase::Asked;
 use nand_phases::phase::EnableFor;
+use nand_phases::phase::EnableStep;
 use nand_phases::phase::EraseFor;
 use nand_phases::phase::Phase;
 use nand_phases::phase::ProgramFor;
@@ -28,7 +29,7 @@ use spi_nand::status::Protection;
 use spi_nand::status::Status;
 ghost use mathlib.Core.Path.{_≡_};
 ghost use Rattle.nand_steps.specs.Go.{look, reset};
-ghost use Rattle.nand_next.specs.Next.{byteOf, writeThen, loadPageThen, startErase, enabledThen, latchedThen, identifyThen, answeredThen, afterPhase, nextOf};
+ghost use Rattle.nand_next.specs.Next.{byteOf, writeThen, loadPageThen, startErase, enabledThen, latchedThen, enablingThen, identifyThen, answeredThen, afterPhase, nextOf};
 
 fn byte(v: u64) -> u8
     ensures { λ r. ⌜ r ≡ byteOf v ⌝ }
@@ -90,9 +91,15 @@ fn enabled(setup: Setup, why: EnableFor) -> Then
 }
 
 fn latch(setup: Setup, why: EnableFor) -> Then
-    ensures { λ r. ⌜ r ≡ look setup (Phase.Latching why) ⌝ }
+    ensures { λ r. ⌜ r ≡ look setup (Phase.Enabling why EnableStep.Latch) ⌝ }
 {
-    go::look(setup, Phase::Latching(why))
+    go::look(
+        setup,
+        Phase::Enabling {
+            why: why,
+            at: EnableStep::Latch,
+        },
+    )
 }
 
 fn latched(setup: Setup, why: EnableFor, status: Status) -> Then
@@ -102,6 +109,16 @@ fn latched(setup: Setup, why: EnableFor, status: Status) -> Then
         return enabled(setup, why);
     }
     Then::Fail(FlashError::WriteEnableFailed)
+}
+
+// What follows each step of write_enable.
+fn enabling(setup: Setup, why: EnableFor, at: EnableStep, status: Status) -> Then
+    ensures { λ r. ⌜ r ≡ enablingThen setup why at status ⌝ }
+{
+    match at {
+        EnableStep::Command => return latch(setup, why),
+        EnableStep::Latch => return latched(setup, why, status),
+    }
 }
 
 // ---- what was asked
@@ -168,13 +185,10 @@ fn after(setup: Setup, phase: Phase, v: u64) -> Then
     match phase {
         Phase::Raised => return raised(setup),
         Phase::Asking(asked) => return answered(setup, asked, v),
-        Phase::Enabling(why) => return latch(setup, why),
-        Phase::Latching(why) => return latched(setup, why, Status::from_byte(b)),
-        Phase::Sending(task) => return wait::sent(setup, task),
-        Phase::Looking { task, waited } => {
-            return wait::looked(setup, task, waited, Status::from_byte(b));
+        Phase::Enabling { why, at } => return enabling(setup, why, at, Status::from_byte(b)),
+        Phase::Waiting { task, at, waited } => {
+            return wait::waiting(setup, task, at, waited, Status::from_byte(b));
         }
-        Phase::Pausing { task, waited } => return wait::look(setup, task, waited),
         Phase::ReadingCache => return go::done(setup),
         Phase::Comparing => return cache::compared(setup, v),
         Phase::ReadingMarker(why) => return block::marker(setup, why, b),

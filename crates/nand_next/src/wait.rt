@@ -4,6 +4,7 @@ use nand_phases::phase::Asked;
 use nand_phases::phase::Phase;
 use nand_phases::phase::ResetFor;
 use nand_phases::phase::Task;
+use nand_phases::phase::WaitStep;
 use nand_phases::setup::Setup;
 use nand_phases::transfer;
 use nand_steps::go;
@@ -16,7 +17,7 @@ use spi_flash::wait::Wait;
 use spi_nand::opcode;
 use spi_nand::status::Status;
 ghost use mathlib.Core.Path.{_≡_};
-ghost use Rattle.nand_next.specs.Wait.{resetThen, resumeTask, lookThen, pauseThen, waitThen, sentThen, lookedThen};
+ghost use Rattle.nand_next.specs.Wait.{resetThen, resumeTask, lookThen, pauseThen, waitThen, sentThen, lookedThen, waitingThen};
 
 fn reset_done(setup: Setup, why: ResetFor) -> Then
     ensures { λ r. ⌜ r ≡ resetThen setup why ⌝ }
@@ -42,13 +43,14 @@ fn resume(setup: Setup, task: Task) -> Then
     }
 }
 
-pub fn look(setup: Setup, task: Task, waited: u32) -> Then
+fn look(setup: Setup, task: Task, waited: u32) -> Then
     ensures { λ r. ⌜ r ≡ lookThen setup task waited ⌝ }
 {
     go::look(
         setup,
-        Phase::Looking {
+        Phase::Waiting {
             task: task,
+            at: WaitStep::Look,
             waited: waited,
         },
     )
@@ -60,8 +62,9 @@ fn pause(setup: Setup, task: Task, us: u32, waited: u32) -> Then
     go::go(
         setup,
         Transfer::Pause(us),
-        Phase::Pausing {
+        Phase::Waiting {
             task: task,
+            at: WaitStep::Pause,
             waited: waited,
         },
     )
@@ -79,7 +82,7 @@ fn go_on(setup: Setup, task: Task, step: Wait) -> Then
 }
 
 // The command is out: the first delay, or a look at once.
-pub fn sent(setup: Setup, task: Task) -> Then
+fn sent(setup: Setup, task: Task) -> Then
     ensures { λ r. ⌜ r ≡ sentThen setup task ⌝ }
 {
     go_on(
@@ -90,7 +93,7 @@ pub fn sent(setup: Setup, task: Task) -> Then
 }
 
 // The status of a look.
-pub fn looked(setup: Setup, task: Task, waited: u32, status: Status) -> Then
+fn looked(setup: Setup, task: Task, waited: u32, status: Status) -> Then
     ensures { λ r. ⌜ r ≡ lookedThen setup task waited status ⌝ }
 {
     go_on(
@@ -102,4 +105,15 @@ pub fn looked(setup: Setup, task: Task, waited: u32, status: Status) -> Then
             status.busy(),
         ),
     )
+}
+
+// What follows each step of a task. A status is looked at only behind a look.
+pub fn waiting(setup: Setup, task: Task, at: WaitStep, waited: u32, status: Status) -> Then
+    ensures { λ r. ⌜ r ≡ waitingThen setup task at waited status ⌝ }
+{
+    match at {
+        WaitStep::Command => return sent(setup, task),
+        WaitStep::Look => return looked(setup, task, waited, status),
+        WaitStep::Pause => return look(setup, task, waited),
+    }
 }

@@ -103,6 +103,12 @@ pub enum EnableFor {
     MarkBad(usize),
 }
 
+// Where write_enable stands: its command is out, or the look at its latch.
+pub enum EnableStep {
+    Command,
+    Latch,
+}
+
 // A command with a wait behind it.
 pub enum Task {
     Reset(ResetFor),
@@ -110,6 +116,13 @@ pub enum Task {
     Load(LoadFor),
     Program(ProgramFor),
     Erase(EraseFor),
+}
+
+// Where a task stands: its command is out, a look at the status, or a delay between two looks.
+pub enum WaitStep {
+    Command,
+    Look,
+    Pause,
 }
 
 // What a register or the id is read for.
@@ -143,16 +156,14 @@ pub enum Phase {
     Raised,
     Asking(Asked),
     // write_enable
-    Enabling(EnableFor),
-    Latching(EnableFor),
-    // a command, and wait_ready
-    Sending(Task),
-    Looking {
-        task: Task,
-        waited: u32,
+    Enabling {
+        why: EnableFor,
+        at: EnableStep,
     },
-    Pausing {
+    // a command, and wait_ready
+    Waiting {
         task: Task,
+        at: WaitStep,
         waited: u32,
     },
     // read_cache: into the caller's buffer, for write_page's comparison, for is_bad_block, for a piece of read

@@ -30,7 +30,9 @@ use Rattle.nand_phases.specs.declared.phase.EnableFor.{EnableFor}
 use Rattle.nand_phases.specs.declared.phase.EraseFor.{EraseFor}
 use Rattle.nand_phases.specs.declared.phase.LoadFor.{LoadFor}
 use Rattle.nand_phases.specs.declared.phase.MarkerFor.{MarkerFor}
+use Rattle.nand_phases.specs.declared.phase.EnableStep.{EnableStep}
 use Rattle.nand_phases.specs.declared.phase.Phase.{Phase}
+use Rattle.nand_phases.specs.declared.phase.WaitStep.{WaitStep}
 use Rattle.nand_phases.specs.declared.phase.ProgramFor.{ProgramFor}
 use Rattle.nand_phases.specs.declared.phase.RegisterFor.{RegisterFor}
 use Rattle.nand_phases.specs.declared.phase.ResetFor.{ResetFor}
@@ -44,8 +46,8 @@ use Rattle.nand_pages.specs.Page.{uncorrectable, pageReadThen, isBadThen, accep
 use Rattle.nand_pages.specs.Read.{readFrom, readThen}
 use Rattle.nand_pages.specs.Block.{isBad, eraseThen, afterErase, erasedThen, markerThen, fillFrom}
 use Rattle.nand_steps.specs.declared.then.Then.{Then}
-use Rattle.nand_next.specs.Wait.{resetThen, resumeTask, waitThen}
-use Rattle.nand_next.specs.Next.{enabledThen, latchedThen, identifyThen, answeredThen, afterPhase, nextOf}
+use Rattle.nand_next.specs.Wait.{resetThen, resumeTask, waitThen, waitingThen}
+use Rattle.nand_next.specs.Next.{enabledThen, latchedThen, enablingThen, identifyThen, answeredThen, afterPhase, nextOf}
 use Rattle.flash_runs.proofs.Supplies.{Stays}
 use Rattle.nand_runs.proofs.Places.{thenAs, decide, Valid}
 
@@ -94,11 +96,11 @@ module _ (Ok : Within → Type 0) where
   abbrev pub OkPhase : Phase → Type 0
   OkPhase Phase.Raised = Ok Within.BringUp
   OkPhase (Phase.Asking asked) = OkAsked asked
-  OkPhase (Phase.Enabling why) = OkEnable why
-  OkPhase (Phase.Latching why) = OkEnable why
-  OkPhase (Phase.Sending task) = OkTask task
-  OkPhase (Phase.Looking task waited) = OkTask task
-  OkPhase (Phase.Pausing task waited) = OkTask task
+  OkPhase (Phase.Enabling why EnableStep.Command) = OkEnable why
+  OkPhase (Phase.Enabling why EnableStep.Latch) = OkEnable why
+  OkPhase (Phase.Waiting task WaitStep.Command waited) = OkTask task
+  OkPhase (Phase.Waiting task WaitStep.Look waited) = OkTask task
+  OkPhase (Phase.Waiting task WaitStep.Pause waited) = OkTask task
   OkPhase Phase.ReadingCache = Unit {0}
   OkPhase Phase.Comparing = Unit {0}
   OkPhase (Phase.ReadingMarker why) = Unit {0}
@@ -152,11 +154,11 @@ module _ where
   all-ok : (phase : Phase) → OkPhase Any phase
   all-ok Phase.Raised = tt
   all-ok (Phase.Asking asked) = any-asked asked
-  all-ok (Phase.Enabling why) = any-enable why
-  all-ok (Phase.Latching why) = any-enable why
-  all-ok (Phase.Sending task) = any-task task
-  all-ok (Phase.Looking task waited) = any-task task
-  all-ok (Phase.Pausing task waited) = any-task task
+  all-ok (Phase.Enabling why EnableStep.Command) = any-enable why
+  all-ok (Phase.Enabling why EnableStep.Latch) = any-enable why
+  all-ok (Phase.Waiting task WaitStep.Command waited) = any-task task
+  all-ok (Phase.Waiting task WaitStep.Look waited) = any-task task
+  all-ok (Phase.Waiting task WaitStep.Pause waited) = any-task task
   all-ok Phase.ReadingCache = tt
   all-ok Phase.Comparing = tt
   all-ok (Phase.ReadingMarker why) = tt
@@ -389,14 +391,14 @@ module _ {Ok : Within → Type 0} {In : Setup → Type 0} {R : Then → Type 0} 
     keeps-answered (Asked.Erased why) v h = keeps-erased why (statusOf (v % 256))
 
     pub keeps-phase : (phase : Phase) (v : ℕ) → OkPhase Ok phase → R (afterPhase s phase v)
-    unfolding afterPhase
+    unfolding afterPhase enablingThen waitingThen
     keeps-phase Phase.Raised v h = goes h
     keeps-phase (Phase.Asking asked) v h = keeps-answered asked v h
-    keeps-phase (Phase.Enabling why) v h = goes h
-    keeps-phase (Phase.Latching why) v h = keeps-latched why (statusOf (v % 256)) h
-    keeps-phase (Phase.Sending task) v h = keeps-wait task (firstWait (timingsOf (taskOperation task))) h
-    keeps-phase (Phase.Looking task waited) v h = keeps-wait task (nextWait (timingsOf (taskOperation task)) waited (busyOf (statusOf (v % 256)))) h
-    keeps-phase (Phase.Pausing task waited) v h = goes h
+    keeps-phase (Phase.Enabling why EnableStep.Command) v h = goes h
+    keeps-phase (Phase.Enabling why EnableStep.Latch) v h = keeps-latched why (statusOf (v % 256)) h
+    keeps-phase (Phase.Waiting task WaitStep.Command waited) v h = keeps-wait task (firstWait (timingsOf (taskOperation task))) h
+    keeps-phase (Phase.Waiting task WaitStep.Look waited) v h = keeps-wait task (nextWait (timingsOf (taskOperation task)) waited (busyOf (statusOf (v % 256)))) h
+    keeps-phase (Phase.Waiting task WaitStep.Pause waited) v h = goes h
     keeps-phase Phase.ReadingCache v h = ends
     keeps-phase Phase.Comparing v h = keeps-compared v
     keeps-phase (Phase.ReadingMarker why) v h = keeps-marker why (v % 256)

@@ -26,7 +26,9 @@ use Rattle.nand_phases.specs.declared.phase.EnableFor.{EnableFor}
 use Rattle.nand_phases.specs.declared.phase.EraseFor.{EraseFor}
 use Rattle.nand_phases.specs.declared.phase.LoadFor.{LoadFor}
 use Rattle.nand_phases.specs.declared.phase.MarkerFor.{MarkerFor}
+use Rattle.nand_phases.specs.declared.phase.EnableStep.{EnableStep}
 use Rattle.nand_phases.specs.declared.phase.Phase.{Phase}
+use Rattle.nand_phases.specs.declared.phase.WaitStep.{WaitStep}
 use Rattle.nand_phases.specs.declared.phase.ProgramFor.{ProgramFor}
 use Rattle.nand_phases.specs.declared.phase.RegisterFor.{RegisterFor}
 use Rattle.nand_phases.specs.declared.phase.ResetFor.{ResetFor}
@@ -232,11 +234,11 @@ answered s (Asked.Erased why) v = erased s why (statusOf (v % 256))
 unfoldable pub meaningAt : Setup → Phase → ℕ → Prog Left
 meaningAt s Phase.Raised v = reset >> (jedec-id >>= identified s)
 meaningAt s (Phase.Asking asked) v = answered s asked v
-meaningAt s (Phase.Enabling why) v = (read-status >>= latch) >> enabled s why
-meaningAt s (Phase.Latching why) v = latch (statusOf (v % 256)) >> enabled s why
-meaningAt s (Phase.Sending task) v = wait-ready (taskOperation task) >> resumed s task
-meaningAt s (Phase.Looking task waited) v = looked task waited v >> resumed s task
-meaningAt s (Phase.Pausing task waited) v =
+meaningAt s (Phase.Enabling why EnableStep.Command) v = (read-status >>= latch) >> enabled s why
+meaningAt s (Phase.Enabling why EnableStep.Latch) v = latch (statusOf (v % 256)) >> enabled s why
+meaningAt s (Phase.Waiting task WaitStep.Command waited) v = wait-ready (taskOperation task) >> resumed s task
+meaningAt s (Phase.Waiting task WaitStep.Look waited) v = looked task waited v >> resumed s task
+meaningAt s (Phase.Waiting task WaitStep.Pause waited) v =
     waiting (getFeatureCommand REG-STATUS) busyValue (timingsOf (taskOperation task)) waited >> resumed s task
 meaningAt s Phase.ReadingCache v = DONE s
 meaningAt s Phase.Comparing v = compared s v

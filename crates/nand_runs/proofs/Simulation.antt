@@ -36,7 +36,9 @@ use Rattle.nand_phases.specs.declared.phase.EnableFor.{EnableFor}
 use Rattle.nand_phases.specs.declared.phase.EraseFor.{EraseFor}
 use Rattle.nand_phases.specs.declared.phase.LoadFor.{LoadFor}
 use Rattle.nand_phases.specs.declared.phase.MarkerFor.{MarkerFor}
+use Rattle.nand_phases.specs.declared.phase.EnableStep.{EnableStep}
 use Rattle.nand_phases.specs.declared.phase.Phase.{Phase}
+use Rattle.nand_phases.specs.declared.phase.WaitStep.{WaitStep}
 use Rattle.nand_phases.specs.declared.phase.ProgramFor.{ProgramFor}
 use Rattle.nand_phases.specs.declared.phase.RegisterFor.{RegisterFor}
 use Rattle.nand_phases.specs.declared.phase.ResetFor.{ResetFor}
@@ -50,8 +52,8 @@ use Rattle.nand_pages.specs.Page.{loadThen, pageReadThen, isBadThen, acceptedTh
 use Rattle.nand_pages.specs.Read.{readFrom}
 use Rattle.nand_pages.specs.Block.{eraseThen, afterErase, erasedThen, markerThen, fillFrom}
 use Rattle.nand_steps.specs.declared.then.Then.{Then}
-use Rattle.nand_next.specs.Wait.{resetThen, resumeTask, waitThen}
-use Rattle.nand_next.specs.Next.{enabledThen, latchedThen, identifyThen, answeredThen, afterPhase, nextOf}
+use Rattle.nand_next.specs.Wait.{resetThen, resumeTask, waitThen, waitingThen}
+use Rattle.nand_next.specs.Next.{enabledThen, latchedThen, enablingThen, identifyThen, answeredThen, afterPhase, nextOf}
 use Rattle.spi_nand.specs.declared.config.QuadSetting.{QuadSetting}
 use Rattle.spi_nand.specs.declared.config.NandJedecId.{NandJedecId}
 use Rattle.nand_rust.specs.Rust.{Nothing, MAX-VERIFY-PAGE-SIZE, quad-wanted, wanted-of, uncorrectable, read-status, read-configuration, read-protection, wait-ready, write-enable, write-register, reset, jedec-id, load-page, page-read, read-cache, load-program-data, program-execute, read-page, erase-block, reading, is-bad-block, filling}
@@ -94,16 +96,16 @@ loads-cache s column n payload phase p e =
 -- ---- a command and its wait
 
 pub sends : (s : Setup) (c : Command) (task : Task) → (transfer (Transfer.Send c) >> wait-ready (taskOperation task)) >> resumed s task
-    ≡ tree meaning (more (Transfer.Send c) (place s (Phase.Sending task)))
+    ≡ tree meaning (more (Transfer.Send c) (place s (Phase.Waiting task WaitStep.Command 0)))
 unfolding meaningAt _>>=_ _>>_
 sends s c task = refl
 
-pub enables : (s : Setup) (why : EnableFor) → write-enable >> enabled s why ≡ tree meaning (more (Transfer.Send writeEnableCommand) (place s (Phase.Enabling why)))
+pub enables : (s : Setup) (why : EnableFor) → write-enable >> enabled s why ≡ tree meaning (more (Transfer.Send writeEnableCommand) (place s (Phase.Enabling why EnableStep.Command)))
 unfolding write-enable meaningAt latch _>>=_ _>>_
 enables s why = refl
 
 waits : (s : Setup) (task : Task) (waited : ℕ) → waiting (getFeatureCommand REG-STATUS) busyValue (timingsOf (taskOperation task)) waited >> resumed s task
-    ≡ tree meaning (more (registerTransfer REG-STATUS) (place s (Phase.Looking task waited)))
+    ≡ tree meaning (more (registerTransfer REG-STATUS) (place s (Phase.Waiting task WaitStep.Look waited)))
 unfolding meaningAt looked _>>=_ _>>_
 waits s task waited =
     ap (λ p. p >> resumed s task) (wait-in-general .loop (getFeatureCommand REG-STATUS) busyValue (timingsOf (taskOperation task)) (wait-table .rule (taskOperation task) .poll) .loops waited)
@@ -124,9 +126,10 @@ no-wrap operation waited e =
     let below = leb-false (timingsOf operation .«timeout_us») waited e in
     rw (le-leb (timingsOf operation .«poll_us») (u32Max - waited) (omega (arith, wait-table .rule operation .fits)))
 
-sent : (s : Setup) (task : Task) (v : ℕ) → meaningAt s (Phase.Sending task) v ≡ tree meaning (decide (afterPhase s (Phase.Sending task) v))
-unfolding meaningAt afterPhase waitThen wait-ready delayedWait _>>=_ _>>_
-sent s task v = rw (delayed (taskOperation task)) refl
+sent : (s : Setup) (task : Task) (waited v : ℕ) →
+    meaningAt s (Phase.Waiting task WaitStep.Command waited) v ≡ tree meaning (decide (afterPhase s (Phase.Waiting task WaitStep.Command waited) v))
+unfolding meaningAt afterPhase waitingThen waitThen wait-ready delayedWait _>>=_ _>>_
+sent s task waited v = rw (delayed (taskOperation task)) refl
 
 -- ---- a test that lets pass or refuses
 
@@ -202,14 +205,14 @@ module _ (s : Setup) where
 
 -- write_register and what follows it
 pub registers : (s : Setup) (register value : ℕ) (why : RegisterFor) → write-register register value >> written s why
-    ≡ tree meaning (more (Transfer.Send writeEnableCommand) (place s (Phase.Enabling (EnableFor.Register register value why))))
+    ≡ tree meaning (more (Transfer.Send writeEnableCommand) (place s (Phase.Enabling (EnableFor.Register register value why) EnableStep.Command)))
 unfolding write-register enabled
 registers s register value why = then-assoc write-enable _ (written s why) ∙ enables s (EnableFor.Register register value why)
 
 -- ---- behind a status
 
 latches : (s : Setup) (why : EnableFor) (v : ℕ) → enabled s why ≡ tree meaning (decide (enabledThen s why)) →
-    meaningAt s (Phase.Latching why) v ≡ tree meaning (decide (latchedThen s why (statusOf (v % 256))))
+    meaningAt s (Phase.Enabling why EnableStep.Latch) v ≡ tree meaning (decide (latchedThen s why (statusOf (v % 256))))
 unfolding meaningAt latch latchedThen refuse _>>=_ _>>_
 latches s why v e = by-cases (writeEnabledOf (statusOf (v % 256))) (λ h. rw h e) (λ h. rw h)
 
@@ -414,8 +417,8 @@ module _ (s : Setup) (valid : inBounds (s .geometry) ≡ true) where
   resumes (Task.Program why) = refl
   resumes (Task.Erase why) = refl
 
-  looks : (task : Task) (waited v : ℕ) → meaningAt s (Phase.Looking task waited) v ≡ tree meaning (decide (afterPhase s (Phase.Looking task waited) v))
-  unfolding meaningAt afterPhase waitThen nextWait looked _>>=_ _>>_
+  looks : (task : Task) (waited v : ℕ) → meaningAt s (Phase.Waiting task WaitStep.Look waited) v ≡ tree meaning (decide (afterPhase s (Phase.Waiting task WaitStep.Look waited) v))
+  unfolding meaningAt afterPhase waitingThen waitThen nextWait looked _>>=_ _>>_
   looks task waited v =
       let t = timingsOf (taskOperation task) in
       by-cases (busyValue v)
@@ -457,14 +460,14 @@ module _ (s : Setup) (valid : inBounds (s .geometry) ≡ true) where
   raises v = refl
 
   follows : (phase : Phase) (v : ℕ) → meaningAt s phase v ≡ tree meaning (decide (afterPhase s phase v))
-  unfolding meaningAt afterPhase program-page program-on after-program latch read-status _>>=_ _>>_
+  unfolding meaningAt afterPhase enablingThen waitingThen program-page program-on after-program latch read-status _>>=_ _>>_
   follows Phase.Raised v = raises v
   follows (Phase.Asking asked) v = answers asked v
-  follows (Phase.Enabling why) v = refl
-  follows (Phase.Latching why) v = latches s why v (enables-on why)
-  follows (Phase.Sending task) v = sent s task v
-  follows (Phase.Looking task waited) v = looks task waited v
-  follows (Phase.Pausing task waited) v = waits s task waited
+  follows (Phase.Enabling why EnableStep.Command) v = refl
+  follows (Phase.Enabling why EnableStep.Latch) v = latches s why v (enables-on why)
+  follows (Phase.Waiting task WaitStep.Command waited) v = sent s task waited v
+  follows (Phase.Waiting task WaitStep.Look waited) v = looks task waited v
+  follows (Phase.Waiting task WaitStep.Pause waited) v = waits s task waited
   follows Phase.ReadingCache v = refl
   follows Phase.Comparing v = compares s v
   follows (Phase.ReadingMarker why) v = markers why v

@@ -12,3 +12,4 @@ pub mod SeenCalls
 pub mod SeenRead
 pub mod LeastDelay
 pub mod SeenRuns
+pub mod Shams

@@ -4,3 +4,4 @@ pub mod Bound
 pub mod ProgramBounds
 pub mod Observer
 pub mod ReadSeen
+pub mod Shams

@@ -8,9 +8,11 @@ use Rattle.nand_answers.specs.declared.answer.Answer.{Answer}
 use Rattle.nand_phases.specs.Transfer.{registerTransfer, idTransfer}
 use Rattle.nand_phases.specs.declared.phase.Asked.{Asked}
 use Rattle.nand_phases.specs.declared.phase.EnableFor.{EnableFor}
+use Rattle.nand_phases.specs.declared.phase.EnableStep.{EnableStep}
 use Rattle.nand_phases.specs.declared.phase.Phase.{Phase}
 use Rattle.nand_phases.specs.declared.phase.ResetFor.{ResetFor}
 use Rattle.nand_phases.specs.declared.phase.Task.{Task}
+use Rattle.nand_phases.specs.declared.phase.WaitStep.{WaitStep}
 use Rattle.nand_phases.specs.declared.phase.Within.{Within}
 use Rattle.nand_phases.specs.declared.setup.Setup.{Setup}
 use Rattle.nand_steps.specs.declared.then.Then.{Then}
@@ -39,7 +41,7 @@ look setup phase = goTo setup (registerTransfer REG-STATUS) phase
 
 -- a command that is waited for
 abbrev pub send : Setup → Command → Task → Then
-send setup command task = goTo setup (Transfer.Send command) (Phase.Sending task)
+send setup command task = goTo setup (Transfer.Send command) (Phase.Waiting task WaitStep.Command 0)
 
 -- reset
 abbrev pub reset : Setup → ResetFor → Then
@@ -47,4 +49,4 @@ reset setup why = send setup resetCommand (Task.Reset why)
 
 -- write_enable
 abbrev pub enable : Setup → EnableFor → Then
-enable setup why = goTo setup (Transfer.Send writeEnableCommand) (Phase.Enabling why)
+enable setup why = goTo setup (Transfer.Send writeEnableCommand) (Phase.Enabling why EnableStep.Command)

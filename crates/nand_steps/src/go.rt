@@ -3,9 +3,11 @@ use crate::then::Then;
 use nand_answers::answer::Answer;
 use nand_phases::phase::Asked;
 use nand_phases::phase::EnableFor;
+use nand_phases::phase::EnableStep;
 use nand_phases::phase::Phase;
 use nand_phases::phase::ResetFor;
 use nand_phases::phase::Task;
+use nand_phases::phase::WaitStep;
 use nand_phases::phase::Within;
 use nand_phases::setup::Setup;
 use nand_phases::transfer;
@@ -79,7 +81,15 @@ pub fn look(setup: Setup, phase: Phase) -> Then
 pub fn send(setup: Setup, command: Command, task: Task) -> Then
     ensures { λ r. ⌜ r ≡ send setup command task ⌝ }
 {
-    go(setup, Transfer::Send(command), Phase::Sending(task))
+    go(
+        setup,
+        Transfer::Send(command),
+        Phase::Waiting {
+            task: task,
+            at: WaitStep::Command,
+            waited: 0,
+        },
+    )
 }
 
 // reset
@@ -96,6 +106,9 @@ pub fn enable(setup: Setup, why: EnableFor) -> Then
     go(
         setup,
         Transfer::Send(command::write_enable_command()),
-        Phase::Enabling(why),
+        Phase::Enabling {
+            why: why,
+            at: EnableStep::Command,
+        },
     )
 }

@@ -14,7 +14,7 @@ raised-requires c κs = search needs
 
 returns : tie.Need-returns
 unfolding afterPhase
-returns c = simp (c .before .enum-told .given .1, ← c .raised .ensures, ← c .before .before .before .byte .ensures)
+returns c = simp (c .before .enum-told .given .1, ← c .raised .ensures)
 
 enum-known-phase : tie.Need-enum-known-phase
 enum-known-phase c = search needs
@@ -24,63 +24,33 @@ answered-requires c κs = search needs
 
 returns-2 : tie.Need-returns-2
 unfolding afterPhase
-returns-2 c = simp (c .before .before .phase .given .1, ← c .answered .ensures, ← c .before .before .before .before .byte .ensures)
+returns-2 c = simp (c .before .before .phase .given .1, ← c .answered .ensures)
 
 enum-known-phase-2 : tie.Need-enum-known-phase-2
 enum-known-phase-2 c = search needs
 
-latch-requires : tie.Need-latch-requires
-latch-requires c κs = search needs
+from-byte-requires : tie.Need-from-byte-requires
+from-byte-requires c κs = search needs
+
+enabling-requires : tie.Need-enabling-requires
+enabling-requires c κs = search needs
 
 returns-3 : tie.Need-returns-3
 unfolding afterPhase
-returns-3 c = simp (c .before .before .phase2 .given .1, ← c .latch .ensures, ← c .before .before .before .before .byte .ensures)
+returns-3 c = simp (c .before .before .before .phase2 .given .1, ← c .enabling .ensures, ← c .before .from-byte .ensures, ← c .before .before .before .before .before .byte .ensures)
 
 enum-known-phase-3 : tie.Need-enum-known-phase-3
 enum-known-phase-3 c = search needs
 
-from-byte-requires : tie.Need-from-byte-requires
-from-byte-requires c κs = search needs
-
-latched-requires : tie.Need-latched-requires
-latched-requires c κs = search needs
-
-returns-4 : tie.Need-returns-4
-unfolding afterPhase
-returns-4 c = simp (c .before .before .before .phase3 .given .1, ← c .latched .ensures, ← c .before .from-byte .ensures, ← c .before .before .before .before .before .byte .ensures)
-
-enum-known-phase-4 : tie.Need-enum-known-phase-4
-enum-known-phase-4 c = search needs
-
-sent-requires : tie.Need-sent-requires
-sent-requires c κs = search needs
-
-returns-5 : tie.Need-returns-5
-unfolding afterPhase
-returns-5 c = simp (c .before .before .phase4 .given .1, ← c .sent .ensures, ← c .before .before .before .before .byte .ensures)
-
-enum-known-phase-5 : tie.Need-enum-known-phase-5
-enum-known-phase-5 c = search needs
-
 from-byte-requires-2 : tie.Need-from-byte-requires-2
 from-byte-requires-2 c κs = search needs
 
-looked-requires : tie.Need-looked-requires
-looked-requires c κs = search needs
+waiting-requires : tie.Need-waiting-requires
+waiting-requires c κs = search needs
 
-returns-6 : tie.Need-returns-6
+returns-4 : tie.Need-returns-4
 unfolding afterPhase
-returns-6 c = simp (c .before .before .before .phase5 .given .1, ← c .looked .ensures, ← c .before .from-byte2 .ensures, ← c .before .before .before .before .before .byte .ensures)
-
-enum-known-phase-6 : tie.Need-enum-known-phase-6
-enum-known-phase-6 c = search needs
-
-look-requires : tie.Need-look-requires
-look-requires c κs = search needs
-
-returns-7 : tie.Need-returns-7
-unfolding afterPhase
-returns-7 c = simp (c .before .before .phase6 .given .1, ← c .look .ensures, ← c .before .before .before .before .byte .ensures)
+returns-4 c = simp (c .before .before .before .phase3 .given .1, ← c .waiting .ensures, ← c .before .from-byte2 .ensures, ← c .before .before .before .before .before .byte .ensures)
 
 enum-told-2 : tie.Need-enum-told-2
 enum-told-2 c = search needs
@@ -88,9 +58,9 @@ enum-told-2 c = search needs
 done-requires : tie.Need-done-requires
 done-requires c κs = search needs
 
-returns-8 : tie.Need-returns-8
+returns-5 : tie.Need-returns-5
 unfolding afterPhase
-returns-8 c = simp (c .before .enum-told2 .given .1, ← c .done .ensures, ← c .before .before .before .byte .ensures)
+returns-5 c = simp (c .before .enum-told2 .given .1, ← c .done .ensures)
 
 enum-told-3 : tie.Need-enum-told-3
 enum-told-3 c = search needs
@@ -98,29 +68,29 @@ enum-told-3 c = search needs
 compared-requires : tie.Need-compared-requires
 compared-requires c κs = search needs
 
-returns-9 : tie.Need-returns-9
+returns-6 : tie.Need-returns-6
 unfolding afterPhase
-returns-9 c = simp (c .before .enum-told3 .given .1, ← c .compared .ensures, ← c .before .before .before .byte .ensures)
+returns-6 c = simp (c .before .enum-told3 .given .1, ← c .compared .ensures)
 
-enum-known-phase-7 : tie.Need-enum-known-phase-7
-enum-known-phase-7 c = search needs
+enum-known-phase-4 : tie.Need-enum-known-phase-4
+enum-known-phase-4 c = search needs
 
 marker-requires : tie.Need-marker-requires
 marker-requires c κs = search needs
 
-returns-10 : tie.Need-returns-10
+returns-7 : tie.Need-returns-7
 unfolding afterPhase
-returns-10 c = simp (c .before .before .phase7 .given .1, ← c .marker .ensures, ← c .before .before .before .before .byte .ensures)
+returns-7 c = simp (c .before .before .phase4 .given .1, ← c .marker .ensures, ← c .before .before .before .before .byte .ensures)
 
-enum-known-phase-8 : tie.Need-enum-known-phase-8
-enum-known-phase-8 c = search needs
+enum-known-phase-5 : tie.Need-enum-known-phase-5
+enum-known-phase-5 c = search needs
 
 piece-read-requires : tie.Need-piece-read-requires
 piece-read-requires c κs = search needs
 
-returns-11 : tie.Need-returns-11
+returns-8 : tie.Need-returns-8
 unfolding afterPhase
-returns-11 c = simp (c .before .before .phase8 .given .1, ← c .piece-read .ensures, ← c .before .before .before .before .byte .ensures)
+returns-8 c = simp (c .before .before .phase5 .given .1, ← c .piece-read .ensures)
 
 enum-told-4 : tie.Need-enum-told-4
 enum-told-4 c = search needs
@@ -128,39 +98,39 @@ enum-told-4 c = search needs
 done-requires-2 : tie.Need-done-requires-2
 done-requires-2 c κs = search needs
 
-returns-12 : tie.Need-returns-12
+returns-9 : tie.Need-returns-9
 unfolding afterPhase
-returns-12 c = simp (c .before .enum-told4 .given .1, ← c .done2 .ensures, ← c .before .before .before .byte .ensures)
+returns-9 c = simp (c .before .enum-told4 .given .1, ← c .done2 .ensures)
 
-enum-known-phase-9 : tie.Need-enum-known-phase-9
-enum-known-phase-9 c = search needs
+enum-known-phase-6 : tie.Need-enum-known-phase-6
+enum-known-phase-6 c = search needs
 
 program-requires : tie.Need-program-requires
 program-requires c κs = search needs
 
-returns-13 : tie.Need-returns-13
+returns-10 : tie.Need-returns-10
 unfolding afterPhase
-returns-13 c = simp (c .before .before .phase9 .given .1, ← c .program .ensures, ← c .before .before .before .before .byte .ensures)
+returns-10 c = simp (c .before .before .phase6 .given .1, ← c .program .ensures)
 
-enum-known-phase-10 : tie.Need-enum-known-phase-10
-enum-known-phase-10 c = search needs
+enum-known-phase-7 : tie.Need-enum-known-phase-7
+enum-known-phase-7 c = search needs
 
 filled-requires : tie.Need-filled-requires
 filled-requires c κs = search needs
 
-returns-14 : tie.Need-returns-14
+returns-11 : tie.Need-returns-11
 unfolding afterPhase
-returns-14 c = simp (c .before .before .phase10 .given .1, ← c .filled .ensures, ← c .before .before .before .before .byte .ensures)
+returns-11 c = simp (c .before .before .phase7 .given .1, ← c .filled .ensures)
 
-enum-known-phase-11 : tie.Need-enum-known-phase-11
-enum-known-phase-11 c = search needs
+enum-known-phase-8 : tie.Need-enum-known-phase-8
+enum-known-phase-8 c = search needs
 
 mark-requires : tie.Need-mark-requires
 mark-requires c κs = search needs
 
-returns-15 : tie.Need-returns-15
+returns-12 : tie.Need-returns-12
 unfolding afterPhase
-returns-15 c = simp (c .before .before .phase11 .given .1, ← c .mark .ensures, ← c .before .before .before .before .byte .ensures)
+returns-12 c = simp (c .before .before .phase8 .given .1, ← c .mark .ensures)
 
 pub after-spec : {M : Type 1} → statement M
 after-spec =
@@ -174,43 +144,34 @@ after-spec =
     answered-requires
     returns-2
     enum-known-phase-2
-    latch-requires
+    from-byte-requires
+    enabling-requires
     returns-3
     enum-known-phase-3
-    from-byte-requires
-    latched-requires
-    returns-4
-    enum-known-phase-4
-    sent-requires
-    returns-5
-    enum-known-phase-5
     from-byte-requires-2
-    looked-requires
-    returns-6
-    enum-known-phase-6
-    look-requires
-    returns-7
+    waiting-requires
+    returns-4
     enum-told-2
     done-requires
-    returns-8
+    returns-5
     enum-told-3
     compared-requires
-    returns-9
-    enum-known-phase-7
+    returns-6
+    enum-known-phase-4
     marker-requires
-    returns-10
-    enum-known-phase-8
+    returns-7
+    enum-known-phase-5
     piece-read-requires
-    returns-11
+    returns-8
     enum-told-4
     done-requires-2
-    returns-12
-    enum-known-phase-9
+    returns-9
+    enum-known-phase-6
     program-requires
-    returns-13
-    enum-known-phase-10
+    returns-10
+    enum-known-phase-7
     filled-requires
-    returns-14
-    enum-known-phase-11
+    returns-11
+    enum-known-phase-8
     mark-requires
-    returns-15)
+    returns-12)
