@@ -15,7 +15,7 @@ use Rattle.nor_steps.specs.Register.{idOf, identifiedThen, disableFirst, disabl
 use Rattle.nor_steps.specs.Protection.{unprotectFirst}
 use Rattle.nor_pages.specs.Read.{readFrom}
 use Rattle.nor_pages.specs.Write.{verifiedThen}
-use Rattle.nor_next.specs.Wait.{latchedThen, lookThen, sentThen, lookedThen}
+use Rattle.nor_next.specs.Wait.{writingThen}
 
 -- buffer[0] of a register's one byte
 abbrev pub byteOf : ℕ → ℕ
@@ -47,11 +47,7 @@ afterPhase setup (Phase.UnprotectRead2 before) v = unprotectFirst setup before (
 afterPhase setup (Phase.UnprotectAfter before) v = endWith setup (Answer.Unprotected before (byteOf v))
 afterPhase setup (Phase.Reading offset len done) v = readFrom setup offset len (done + chunkOf len done)
 afterPhase setup (Phase.Verifying offset len done) v = verifiedThen setup offset len done v
-afterPhase setup (Phase.Enabling task) v = read1Then setup (Phase.Latching task)
-afterPhase setup (Phase.Latching task) v = latchedThen setup task (byteOf v)
-afterPhase setup (Phase.Sending task) v = sentThen setup task
-afterPhase setup (Phase.Looking task waited) v = lookedThen setup task waited (byteOf v)
-afterPhase setup (Phase.Pausing task waited) v = lookThen setup task waited
+afterPhase setup (Phase.Writing task at waited) v = writingThen setup task at waited (byteOf v)
 
 -- a bus error ends the call: `map_err(FlashError::Spi)?`
 unfoldable pub nextOf : Setup → Phase → Outcome → Then

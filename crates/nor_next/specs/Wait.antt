@@ -10,6 +10,7 @@ use Rattle.spi_nor.specs.Status.{busyOf, writeEnabledOf}
 use Rattle.nor_phases.specs.Transfer.{taskTransfer, taskOperation, afterUnit}
 use Rattle.nor_phases.specs.declared.phase.Phase.{Phase}
 use Rattle.nor_phases.specs.declared.phase.Task.{Task}
+use Rattle.nor_phases.specs.declared.phase.WriteStep.{WriteStep}
 use Rattle.nor_phases.specs.declared.setup.Setup.{Setup}
 use Rattle.nor_steps.specs.declared.then.Then.{Then}
 use Rattle.nor_steps.specs.Go.{goTo, read1Then, read2Then}
@@ -17,10 +18,14 @@ use Rattle.nor_steps.specs.Protection.{unprotectSecond}
 use Rattle.nor_pages.specs.Write.{verifyThen}
 use Rattle.nor_pages.specs.Erase.{eraseFrom}
 
+-- write_enable: the look at its latch
+abbrev pub latchThen : Setup → Task → Then
+latchThen setup task = read1Then setup (Phase.Writing task WriteStep.Latch 0)
+
 -- write_enable: `if self.read_status1()? & status::WRITE_ENABLE_LATCH == 0`, and the command behind it
 unfoldable pub latchedThen : Setup → Task → ℕ → Then
 latchedThen setup task status1 =
-    pick (writeEnabledOf status1) (goTo setup (taskTransfer setup task) (Phase.Sending task)) (Then.Fail FlashError.WriteEnableFailed)
+    pick (writeEnabledOf status1) (goTo setup (taskTransfer setup task) (Phase.Writing task WriteStep.Command 0)) (Then.Fail FlashError.WriteEnableFailed)
 
 -- what stands behind `self.wait_ready(..)?` of each
 unfoldable pub resumeTask : Setup → Task → Then
@@ -35,11 +40,11 @@ resumeTask setup (Task.Erase kind address end) = eraseFrom setup (afterUnit (set
 
 -- wait_ready: `self.read_status1()?`
 abbrev pub lookThen : Setup → Task → ℕ → Then
-lookThen setup task waited = read1Then setup (Phase.Looking task waited)
+lookThen setup task waited = read1Then setup (Phase.Writing task WriteStep.Look waited)
 
 -- wait_ready: `self.delay.delay_us(..)`
 abbrev pub pauseThen : Setup → Task → ℕ → ℕ → Then
-pauseThen setup task us waited = goTo setup (Transfer.Pause us) (Phase.Pausing task waited)
+pauseThen setup task us waited = goTo setup (Transfer.Pause us) (Phase.Writing task WriteStep.Pause waited)
 
 -- wait_ready: a step of it
 unfoldable pub waitThen : Setup → Task → Wait → Then
@@ -54,3 +59,11 @@ sentThen setup task = waitThen setup task (firstWait (timingsOf (taskOperation t
 
 abbrev pub lookedThen : Setup → Task → ℕ → ℕ → Then
 lookedThen setup task waited status1 = waitThen setup task (nextWait (timingsOf (taskOperation task)) waited (busyOf status1))
+
+-- what follows each step; the status is looked at only behind a look
+unfoldable pub writingThen : Setup → Task → WriteStep → ℕ → ℕ → Then
+writingThen setup task WriteStep.Enable waited status1 = latchThen setup task
+writingThen setup task WriteStep.Latch waited status1 = latchedThen setup task status1
+writingThen setup task WriteStep.Command waited status1 = sentThen setup task
+writingThen setup task WriteStep.Look waited status1 = lookedThen setup task waited status1
+writingThen setup task WriteStep.Pause waited status1 = lookThen setup task waited

@@ -56,11 +56,7 @@ fn after(setup: Setup, phase: Phase, v: u64) -> Then
         Phase::Verifying { offset, len, done } => {
             return write::verified(setup, offset, len, done, v);
         }
-        Phase::Enabling(task) => return go::read1(setup, Phase::Latching(task)),
-        Phase::Latching(task) => return wait::latched(setup, task, b),
-        Phase::Sending(task) => return wait::sent(setup, task),
-        Phase::Looking { task, waited } => return wait::looked(setup, task, waited, b),
-        Phase::Pausing { task, waited } => return wait::look(setup, task, waited),
+        Phase::Writing { task, at, waited } => return wait::writing(setup, task, at, waited, b),
     }
 }
 

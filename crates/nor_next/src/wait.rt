@@ -3,6 +3,7 @@ use nor_pages::erase;
 use nor_pages::write;
 use nor_phases::phase::Phase;
 use nor_phases::phase::Task;
+use nor_phases::phase::WriteStep;
 use nor_phases::setup::Setup;
 use nor_phases::transfer;
 use nor_steps::go;
@@ -15,17 +16,34 @@ use spi_flash::wait::Wait;
 use spi_nor::opcode;
 use spi_nor::status;
 ghost use mathlib.Core.Path.{_≡_};
-ghost use Rattle.nor_next.specs.Wait.{latchedThen, resumeTask, lookThen, pauseThen, waitThen, sentThen, lookedThen};
+ghost use Rattle.nor_next.specs.Wait.{latchThen, latchedThen, resumeTask, lookThen, pauseThen, waitThen, sentThen, lookedThen, writingThen};
+
+fn latch(setup: Setup, task: Task) -> Then
+    ensures { λ r. ⌜ r ≡ latchThen setup task ⌝ }
+{
+    go::read1(
+        setup,
+        Phase::Writing {
+            task: task,
+            at: WriteStep::Latch,
+            waited: 0,
+        },
+    )
+}
 
 // write_enable has been sent: the command goes out where the latch is set.
-pub fn latched(setup: Setup, task: Task, status1: u8) -> Then
+fn latched(setup: Setup, task: Task, status1: u8) -> Then
     ensures { λ r. ⌜ r ≡ latchedThen setup task status1 ⌝ }
 {
     if status::write_enabled(status1) {
         go::go(
             setup,
             transfer::task_transfer(setup, task),
-            Phase::Sending(task),
+            Phase::Writing {
+                task: task,
+                at: WriteStep::Command,
+                waited: 0,
+            },
         )
     } else {
         Then::Fail(FlashError::WriteEnableFailed)
@@ -58,13 +76,14 @@ fn resume(setup: Setup, task: Task) -> Then
     }
 }
 
-pub fn look(setup: Setup, task: Task, waited: u32) -> Then
+fn look(setup: Setup, task: Task, waited: u32) -> Then
     ensures { λ r. ⌜ r ≡ lookThen setup task waited ⌝ }
 {
     go::read1(
         setup,
-        Phase::Looking {
+        Phase::Writing {
             task: task,
+            at: WriteStep::Look,
             waited: waited,
         },
     )
@@ -76,8 +95,9 @@ fn pause(setup: Setup, task: Task, us: u32, waited: u32) -> Then
     go::go(
         setup,
         Transfer::Pause(us),
-        Phase::Pausing {
+        Phase::Writing {
             task: task,
+            at: WriteStep::Pause,
             waited: waited,
         },
     )
@@ -95,7 +115,7 @@ fn waited_then(setup: Setup, task: Task, step: Wait) -> Then
 }
 
 // The command is out: the first delay, or a look at once.
-pub fn sent(setup: Setup, task: Task) -> Then
+fn sent(setup: Setup, task: Task) -> Then
     ensures { λ r. ⌜ r ≡ sentThen setup task ⌝ }
 {
     waited_then(
@@ -106,7 +126,7 @@ pub fn sent(setup: Setup, task: Task) -> Then
 }
 
 // The status of a look.
-pub fn looked(setup: Setup, task: Task, waited: u32, status1: u8) -> Then
+fn looked(setup: Setup, task: Task, waited: u32, status1: u8) -> Then
     ensures { λ r. ⌜ r ≡ lookedThen setup task waited status1 ⌝ }
 {
     waited_then(
@@ -118,4 +138,17 @@ pub fn looked(setup: Setup, task: Task, waited: u32, status1: u8) -> Then
             status::busy(status1),
         ),
     )
+}
+
+// What follows each step of a task. The status is looked at only behind a look.
+pub fn writing(setup: Setup, task: Task, at: WriteStep, waited: u32, status1: u8) -> Then
+    ensures { λ r. ⌜ r ≡ writingThen setup task at waited status1 ⌝ }
+{
+    match at {
+        WriteStep::Enable => return latch(setup, task),
+        WriteStep::Latch => return latched(setup, task, status1),
+        WriteStep::Command => return sent(setup, task),
+        WriteStep::Look => return looked(setup, task, waited, status1),
+        WriteStep::Pause => return look(setup, task, waited),
+    }
 }

@@ -36,6 +36,15 @@ pub enum Task {
     },
 }
 
+// Where a task stands: write_enable is out, the look at its latch, the command, a look at the status, or a delay between two looks.
+pub enum WriteStep {
+    Enable,
+    Latch,
+    Command,
+    Look,
+    Pause,
+}
+
 pub enum Phase {
     // with_config
     Raised,
@@ -77,15 +86,9 @@ pub enum Phase {
         done: usize,
     },
     // write_enable, the command, and wait_ready
-    Enabling(Task),
-    Latching(Task),
-    Sending(Task),
-    Looking {
+    Writing {
         task: Task,
-        waited: u32,
-    },
-    Pausing {
-        task: Task,
+        at: WriteStep,
         waited: u32,
     },
 }

@@ -14,7 +14,7 @@ use Rattle.nor_next.specs.Next.{byteOf, afterPhase}
 use Rattle.nor_steps.specs.Register.{idOf, deviceAt, deviceFor, knownAs, builtThen, identifiedThen}
 use Rattle.nor_pages.specs.Read.{readFrom}
 use Rattle.nor_pages.specs.Write.{programFrom, verifyThen, verifiedThen}
-use Rattle.nor_next.specs.Wait.{latchedThen, resumeTask, waitThen}
+use Rattle.nor_next.specs.Wait.{latchedThen, resumeTask, waitThen, writingThen}
 use Rattle.nor_pages.specs.Erase.{eraseUnit, eraseFrom}
 use Rattle.nor_steps.specs.Protection.{unprotectFirst, unprotectSecond}
 use Rattle.spi_nor.specs.Config.{inBoundsOf, fromJedec}
@@ -26,6 +26,7 @@ use Rattle.spi_nor.specs.declared.config.QuadSetting.{QuadSetting}
 use Rattle.nor_phases.specs.declared.phase.EraseKind.{EraseKind}
 use Rattle.nor_phases.specs.declared.phase.Phase.{Phase}
 use Rattle.nor_phases.specs.declared.phase.Task.{Task}
+use Rattle.nor_phases.specs.declared.phase.WriteStep.{WriteStep}
 use Rattle.nor_answers.specs.declared.answer.Answer.{Answer}
 use Rattle.qspi.specs.declared.transfer.Transfer.{Transfer}
 use Rattle.spi_flash.specs.declared.error.FlashError.{FlashError}
@@ -106,7 +107,7 @@ module _ (R : Then → Type 0) (s : Setup) (passes : Passes R s) where
   keeps-wait task Wait.Timeout = passes .fail _
 
   pub keeps-built : (phase : Phase) → Built phase → (v : ℕ) → R (afterPhase s phase v)
-  unfolding afterPhase
+  unfolding afterPhase writingThen
   keeps-built Phase.Raised h v = absurd h
   keeps-built Phase.Identify h v = absurd h
   keeps-built Phase.Status1 h v = passes .end _
@@ -131,11 +132,11 @@ module _ (R : Then → Type 0) (s : Setup) (passes : Passes R s) where
   keeps-built (Phase.UnprotectAfter before) h v = passes .end _
   keeps-built (Phase.Reading offset len done) h v = keeps-read offset len (done + chunkOf len done)
   keeps-built (Phase.Verifying offset len done) h v = keeps-verified offset len done v
-  keeps-built (Phase.Enabling task) h v = passes .go _ _ tt
-  keeps-built (Phase.Latching task) h v = keeps-latched task (byteOf v)
-  keeps-built (Phase.Sending task) h v = keeps-wait task (firstWait (timingsOf (taskOperation task)))
-  keeps-built (Phase.Looking task waited) h v = keeps-wait task (nextWait (timingsOf (taskOperation task)) waited (busyOf (byteOf v)))
-  keeps-built (Phase.Pausing task waited) h v = passes .go _ _ tt
+  keeps-built (Phase.Writing task WriteStep.Enable waited) h v = passes .go _ _ tt
+  keeps-built (Phase.Writing task WriteStep.Latch waited) h v = keeps-latched task (byteOf v)
+  keeps-built (Phase.Writing task WriteStep.Command waited) h v = keeps-wait task (firstWait (timingsOf (taskOperation task)))
+  keeps-built (Phase.Writing task WriteStep.Look waited) h v = keeps-wait task (nextWait (timingsOf (taskOperation task)) waited (busyOf (byteOf v)))
+  keeps-built (Phase.Writing task WriteStep.Pause waited) h v = passes .go _ _ tt
 
 -- ---- the device stays within the bounds
 
@@ -186,8 +187,4 @@ module _ (s : Setup) (valid : inBoundsOf (s .device) ≡ true) where
   keeps (Phase.UnprotectAfter before) v = going (Phase.UnprotectAfter before) tt v
   keeps (Phase.Reading offset len done) v = going (Phase.Reading offset len done) tt v
   keeps (Phase.Verifying offset len done) v = going (Phase.Verifying offset len done) tt v
-  keeps (Phase.Enabling task) v = going (Phase.Enabling task) tt v
-  keeps (Phase.Latching task) v = going (Phase.Latching task) tt v
-  keeps (Phase.Sending task) v = going (Phase.Sending task) tt v
-  keeps (Phase.Looking task waited) v = going (Phase.Looking task waited) tt v
-  keeps (Phase.Pausing task waited) v = going (Phase.Pausing task waited) tt v
+  keeps (Phase.Writing task at waited) v = going (Phase.Writing task at waited) tt v

@@ -82,11 +82,7 @@ Built (Phase.UnprotectRead2 before) = Unit {0}
 Built (Phase.UnprotectAfter before) = Unit {0}
 Built (Phase.Reading offset len done) = Unit {0}
 Built (Phase.Verifying offset len done) = Unit {0}
-Built (Phase.Enabling task) = Unit {0}
-Built (Phase.Latching task) = Unit {0}
-Built (Phase.Sending task) = Unit {0}
-Built (Phase.Looking task waited) = Unit {0}
-Built (Phase.Pausing task waited) = Unit {0}
+Built (Phase.Writing task at waited) = Unit {0}
 
 -- the driver holds what it held when the call began, and the call is no construction
 abbrev pub Stays : Setup → Then → Type 0

@@ -22,7 +22,7 @@ use Rattle.nor_next.specs.Next.{byteOf, afterPhase, nextOf}
 use Rattle.nor_steps.specs.Register.{idOf, knownAs, builtThen, identifiedThen}
 use Rattle.nor_pages.specs.Read.{readFrom}
 use Rattle.nor_pages.specs.Write.{programFrom, verifyThen, verifiedThen}
-use Rattle.nor_next.specs.Wait.{latchedThen, resumeTask, waitThen}
+use Rattle.nor_next.specs.Wait.{latchedThen, resumeTask, waitThen, writingThen}
 use Rattle.nor_pages.specs.Erase.{eraseUnit, eraseFrom}
 use Rattle.nor_steps.specs.Protection.{unprotectFirst, unprotectSecond}
 use Rattle.nor_runs.specs.Rust.{Nothing, busyValue, read-status1, read-status2, is-busy, wait-ready, write-enable, write-status1, write-status2, jedec-id, unique-id, quad-enabled, enable-quad, disable-quad, reading, read-back, page-program, writing, erase-unit, erasing, Unprotected, unprotect, quad-if, with-config}
@@ -37,6 +37,7 @@ use Rattle.spi_nor.specs.declared.config.SpiNorConfig.{SpiNorConfig}
 use Rattle.nor_phases.specs.declared.phase.EraseKind.{EraseKind}
 use Rattle.nor_phases.specs.declared.phase.Phase.{Phase}
 use Rattle.nor_phases.specs.declared.phase.Task.{Task}
+use Rattle.nor_phases.specs.declared.phase.WriteStep.{WriteStep}
 use Rattle.nor_answers.specs.declared.answer.Answer.{Answer}
 use Rattle.nor_phases.specs.declared.setup.Setup.{Setup}
 use Rattle.spi_nor.specs.declared.opcode.Operation.{Operation}
@@ -176,11 +177,11 @@ meaningAt s (Phase.UnprotectRead2 before) v =
 meaningAt s (Phase.UnprotectAfter before) v = told s (record { before = before; after = byteOf v })
 meaningAt s (Phase.Reading offset len done) v = reading s offset len (done + chunkOf len done) >> DONE s
 meaningAt s (Phase.Verifying offset len done) v = (verified v >> writing s offset len (done + pageOf (s .device) len done)) >> DONE s
-meaningAt s (Phase.Enabling task) v = context s task ((read-status1 >>= latch) >> (transfer (taskTransfer s task) >> waitOf task))
-meaningAt s (Phase.Latching task) v = context s task (latch (byteOf v) >> (transfer (taskTransfer s task) >> waitOf task))
-meaningAt s (Phase.Sending task) v = context s task (waitOf task)
-meaningAt s (Phase.Looking task waited) v = context s task (looked task waited v)
-meaningAt s (Phase.Pausing task waited) v = context s task (waiting readStatus1Command busyValue (timingsOf (taskOperation task)) waited)
+meaningAt s (Phase.Writing task WriteStep.Enable waited) v = context s task ((read-status1 >>= latch) >> (transfer (taskTransfer s task) >> waitOf task))
+meaningAt s (Phase.Writing task WriteStep.Latch waited) v = context s task (latch (byteOf v) >> (transfer (taskTransfer s task) >> waitOf task))
+meaningAt s (Phase.Writing task WriteStep.Command waited) v = context s task (waitOf task)
+meaningAt s (Phase.Writing task WriteStep.Look waited) v = context s task (looked task waited v)
+meaningAt s (Phase.Writing task WriteStep.Pause waited) v = context s task (waiting readStatus1Command busyValue (timingsOf (taskOperation task)) waited)
 
 abbrev pub meaning : Place → ℕ → Prog Left
 meaning s v = meaningAt (s .setup) (s .phase) v
@@ -210,14 +211,14 @@ through s (Task.PageProgram offset len done) e = refl
 through s (Task.Erase kind address end) e = refl
 
 -- a task begins with its write enable
-enables : (s : Setup) (task : Task) → context s task (sends s task) ≡ tree meaning (more (Transfer.Send writeEnableCommand) (place s (Phase.Enabling task)))
+enables : (s : Setup) (task : Task) → context s task (sends s task) ≡ tree meaning (more (Transfer.Send writeEnableCommand) (place s (Phase.Writing task WriteStep.Enable 0)))
 unfolding meaningAt write-enable latch _>>=_ _>>_
 enables s task = under s task _ _
 
 -- ---- the wait
 
 waits : (s : Setup) (task : Task) (waited : ℕ) → context s task (waiting readStatus1Command busyValue (timingsOf (taskOperation task)) waited)
-    ≡ tree meaning (more (numberTransfer readStatus1Command 1) (place s (Phase.Looking task waited)))
+    ≡ tree meaning (more (numberTransfer readStatus1Command 1) (place s (Phase.Writing task WriteStep.Look waited)))
 unfolding meaningAt looked _>>=_ _>>_
 waits s task waited =
     ap (context s task) (wait-in-general .loop readStatus1Command busyValue (timingsOf (taskOperation task)) (wait-table .rule (taskOperation task) .poll) .loops waited)
@@ -247,9 +248,9 @@ then-assoc (ret a) q r = refl
 then-assoc (fail e) q r = refl
 then-assoc (ask t k) q r = ap (ask t) (fun-ext (λ v. then-assoc (k v) q r))
 
-latches : (s : Setup) (task : Task) (v : ℕ) → meaningAt s (Phase.Latching task) v ≡ tree meaning (decide (latchedThen s task (byteOf v)))
+latches : (s : Setup) (task : Task) (waited v : ℕ) → meaningAt s (Phase.Writing task WriteStep.Latch waited) v ≡ tree meaning (decide (latchedThen s task (byteOf v)))
 unfolding meaningAt latch latchedThen refuse _>>=_ _>>_
-latches s task v = by-cases (writeEnabledOf (byteOf v)) (λ e. rw e (under s task _ _)) (λ e. rw e (through s task FlashError.WriteEnableFailed))
+latches s task waited v = by-cases (writeEnabledOf (byteOf v)) (λ e. rw e (under s task _ _)) (λ e. rw e (through s task FlashError.WriteEnableFailed))
 
 enable-check2 : (s : Setup) (v : ℕ) → meaningAt s Phase.EnableCheck2 v ≡ tree meaning (decide (afterPhase s Phase.EnableCheck2 v))
 unfolding meaningAt afterPhase enable2 _>>=_ _>>_
@@ -375,8 +376,8 @@ module _ (s : Setup) (valid : inBoundsOf (s .device) ≡ true) where
   resumes (Task.PageProgram offset len done) = verifies offset len done
   resumes (Task.Erase kind address end) = erases-on (afterUnit (s .device) kind address) end
 
-  looks : (task : Task) (waited v : ℕ) → meaningAt s (Phase.Looking task waited) v ≡ tree meaning (decide (afterPhase s (Phase.Looking task waited) v))
-  unfolding meaningAt afterPhase waitThen nextWait looked _>>=_ _>>_
+  looks : (task : Task) (waited v : ℕ) → meaningAt s (Phase.Writing task WriteStep.Look waited) v ≡ tree meaning (decide (afterPhase s (Phase.Writing task WriteStep.Look waited) v))
+  unfolding meaningAt afterPhase writingThen waitThen nextWait looked _>>=_ _>>_
   looks task waited v =
       let t = timingsOf (taskOperation task) in
       by-cases (busyValue v)
@@ -385,9 +386,9 @@ module _ (s : Setup) (valid : inBoundsOf (s .device) ≡ true) where
       (λ d. rw (e, d, no-wrap (taskOperation task) waited d) (under s task _ _)))
       (λ e. rw e (resumes task))
 
-  sent : (task : Task) (v : ℕ) → meaningAt s (Phase.Sending task) v ≡ tree meaning (decide (afterPhase s (Phase.Sending task) v))
-  unfolding meaningAt afterPhase waitThen wait-ready promptWait
-  sent task v = rw (prompt (taskOperation task)) (waits s task 0)
+  sent : (task : Task) (waited v : ℕ) → meaningAt s (Phase.Writing task WriteStep.Command waited) v ≡ tree meaning (decide (afterPhase s (Phase.Writing task WriteStep.Command waited) v))
+  unfolding meaningAt afterPhase writingThen waitThen wait-ready promptWait
+  sent task waited v = rw (prompt (taskOperation task)) (waits s task 0)
 
 -- ---- construction
 
@@ -424,7 +425,7 @@ identifies s v =
 -- ---- every phase
 
 follows : (s : Setup) → inBoundsOf (s .device) ≡ true → (phase : Phase) (v : ℕ) → meaningAt s phase v ≡ tree meaning (decide (afterPhase s phase v))
-unfolding meaningAt afterPhase reread told _>>=_ _>>_
+unfolding meaningAt afterPhase writingThen reread told _>>=_ _>>_
 follows s valid Phase.Raised v = refl
 follows s valid Phase.Identify v = identifies s v
 follows s valid Phase.Status1 v = refl
@@ -449,11 +450,11 @@ follows s valid (Phase.UnprotectRead2 before) v = unprotects1 s before v
 follows s valid (Phase.UnprotectAfter before) v = refl
 follows s valid (Phase.Reading offset len done) v = reads-on s offset len (done + chunkOf len done)
 follows s valid (Phase.Verifying offset len done) v = verified-page s valid offset len done v
-follows s valid (Phase.Enabling task) v = under s task _ _
-follows s valid (Phase.Latching task) v = latches s task v
-follows s valid (Phase.Sending task) v = sent s valid task v
-follows s valid (Phase.Looking task waited) v = looks s valid task waited v
-follows s valid (Phase.Pausing task waited) v = waits s task waited
+follows s valid (Phase.Writing task WriteStep.Enable waited) v = under s task _ _
+follows s valid (Phase.Writing task WriteStep.Latch waited) v = latches s task waited v
+follows s valid (Phase.Writing task WriteStep.Command waited) v = sent s valid task waited v
+follows s valid (Phase.Writing task WriteStep.Look waited) v = looks s valid task waited v
+follows s valid (Phase.Writing task WriteStep.Pause waited) v = waits s task waited
 
 pub simulates : Simulates Valid decideNext meaning
 unfolding nextOf

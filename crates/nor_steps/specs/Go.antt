@@ -7,6 +7,7 @@ use Rattle.spi_nor.specs.Command.{writeEnableCommand, readStatus1Command, readS
 use Rattle.nor_phases.specs.Transfer.{numberTransfer}
 use Rattle.nor_phases.specs.declared.phase.Phase.{Phase}
 use Rattle.nor_phases.specs.declared.phase.Task.{Task}
+use Rattle.nor_phases.specs.declared.phase.WriteStep.{WriteStep}
 use Rattle.nor_answers.specs.declared.answer.Answer.{Answer}
 use Rattle.nor_phases.specs.declared.setup.Setup.{Setup}
 use Rattle.nor_steps.specs.declared.then.Then.{Then}
@@ -37,7 +38,7 @@ readUniqueIdThen setup phase = goTo setup (numberTransfer readUniqueIdCommand 8)
 
 -- write_enable: its command
 abbrev pub enabledThen : Setup → Task → Then
-enabledThen setup task = goTo setup (Transfer.Send writeEnableCommand) (Phase.Enabling task)
+enabledThen setup task = goTo setup (Transfer.Send writeEnableCommand) (Phase.Writing task WriteStep.Enable 0)
 
 -- enable_quad: `if .. { return Ok(()); }`
 abbrev pub doneIf : Bool → Setup → Then → Then

@@ -3,6 +3,7 @@ use crate::then::Then;
 use nor_answers::answer::Answer;
 use nor_phases::phase::Phase;
 use nor_phases::phase::Task;
+use nor_phases::phase::WriteStep;
 use nor_phases::setup::Setup;
 use nor_phases::transfer;
 use qspi::transfer::Transfer;
@@ -76,7 +77,11 @@ pub fn enabled(setup: Setup, task: Task) -> Then
     go(
         setup,
         Transfer::Send(command::write_enable_command()),
-        Phase::Enabling(task),
+        Phase::Writing {
+            task: task,
+            at: WriteStep::Enable,
+            waited: 0,
+        },
     )
 }
 

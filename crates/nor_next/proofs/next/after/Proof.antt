@@ -267,52 +267,12 @@ returns-24 c = simp (c .before .before .phase4 .given .1, ← c .verified .ensur
 enum-known-phase-5 : tie.Need-enum-known-phase-5
 enum-known-phase-5 c = search needs
 
-read1-requires : tie.Need-read1-requires
-read1-requires c κs = search needs
+writing-requires : tie.Need-writing-requires
+writing-requires c κs = search needs
 
 returns-25 : tie.Need-returns-25
 unfolding afterPhase
-returns-25 c = simp (c .before .before .phase5 .given .1, ← c .read1 .ensures)
-
-enum-known-phase-6 : tie.Need-enum-known-phase-6
-enum-known-phase-6 c = search needs
-
-latched-requires : tie.Need-latched-requires
-latched-requires c κs = search needs
-
-returns-26 : tie.Need-returns-26
-unfolding afterPhase
-returns-26 c = simp (c .before .before .phase6 .given .1, ← c .latched .ensures, ← c .before .before .before .before .byte .ensures)
-
-enum-known-phase-7 : tie.Need-enum-known-phase-7
-enum-known-phase-7 c = search needs
-
-sent-requires : tie.Need-sent-requires
-sent-requires c κs = search needs
-
-returns-27 : tie.Need-returns-27
-unfolding afterPhase
-returns-27 c = simp (c .before .before .phase7 .given .1, ← c .sent .ensures)
-
-enum-known-phase-8 : tie.Need-enum-known-phase-8
-enum-known-phase-8 c = search needs
-
-looked-requires : tie.Need-looked-requires
-looked-requires c κs = search needs
-
-returns-28 : tie.Need-returns-28
-unfolding afterPhase
-returns-28 c = simp (c .before .before .phase8 .given .1, ← c .looked .ensures, ← c .before .before .before .before .byte .ensures)
-
-enum-known-phase-9 : tie.Need-enum-known-phase-9
-enum-known-phase-9 c = search needs
-
-look-requires : tie.Need-look-requires
-look-requires c κs = search needs
-
-returns-29 : tie.Need-returns-29
-unfolding afterPhase
-returns-29 c = simp (c .before .before .phase9 .given .1, ← c .look .ensures)
+returns-25 c = simp (c .before .before .phase5 .given .1, ← c .writing .ensures, ← c .before .before .before .before .byte .ensures)
 
 pub after-spec : {M : Type 1} → statement M
 after-spec =
@@ -398,17 +358,5 @@ after-spec =
     verified-requires
     returns-24
     enum-known-phase-5
-    read1-requires
-    returns-25
-    enum-known-phase-6
-    latched-requires
-    returns-26
-    enum-known-phase-7
-    sent-requires
-    returns-27
-    enum-known-phase-8
-    looked-requires
-    returns-28
-    enum-known-phase-9
-    look-requires
-    returns-29)
+    writing-requires
+    returns-25)
