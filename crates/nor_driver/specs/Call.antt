@@ -1,6 +1,6 @@
 -- How each call begins, and how it is turned away (document 01, "Who can cause a refusal": 13, 14, 12, then the Rust's).
 use Prim.Native.Nat.{ℕ}
-use mathlib.Core.Bool.{Bool, true, false}
+use mathlib.Core.Bool.{false}
 use lib.Dec.{ltb}
 use Rattle.qspi.specs.Choice.{pick}
 use Rattle.qspi.specs.Command.{scratchLeast}
@@ -25,14 +25,16 @@ use Rattle.nor_driver.specs.declared.state.Running.{Running}
 use Rattle.nor_driver.specs.declared.state.SpiNorFlash.{SpiNorFlash}
 use Rattle.nor_driver.specs.declared.state.Stepped.{Stepped}
 
--- with_config: what stands in the struct before the id is known
+-- the device of a setting, where one is given
 abbrev pub givenAt : DeviceSetting → NorDeviceInfo
 givenAt DeviceSetting.Detect = w25q128jv
 givenAt (DeviceSetting.Given device) = device
 
+-- with_config: `config.device.unwrap_or(NorDeviceInfo::W25Q128JV)`
 abbrev pub givenDevice : SpiNorConfig → NorDeviceInfo
 givenDevice config = givenAt (config .device)
 
+-- with_config: the struct before the id is known
 abbrev pub freshSetup : SpiNorConfig → Setup
 freshSetup config = record { config = config; device = givenDevice config; id = jedecId 0 0 0 }
 
@@ -72,6 +74,7 @@ openedOf flash takes (Then.Go setup transfer phase) = settledOf (freshCall flash
 openedOf flash takes (Then.End setup answer) = settledOf (freshCall flash) takes (Then.End setup answer)
 openedOf flash takes (Then.Fail error) = refusedOf flash error
 
+-- a call other than a construction: 13 where the driver is not built, 14 for a scratch under 264, 12 for a device outside the bounds
 unfoldable pub begunOf : SpiNorFlash → ℕ → Takes → Then → Stepped
 begunOf flash scratch takes then =
     pick (flash .built)
@@ -81,6 +84,7 @@ begunOf flash scratch takes then =
 
 -- ---- every call, with the lengths of what is lent: scratch, buffer, data
 
+-- each call by what it is to a driver at rest
 unfoldable pub idleOf : SpiNorFlash → Opening → ℕ → Stepped
 idleOf flash (Opening.Constructs config) s = constructedOf flash config s
 idleOf flash (Opening.Tells answer) s = toldOf flash answer

@@ -17,12 +17,15 @@ use Rattle.nor_driver.specs.declared.state.Running.{Running}
 use Rattle.nor_driver.specs.declared.state.SpiNorFlash.{SpiNorFlash}
 use Rattle.nor_driver.specs.declared.state.Stepped.{Stepped}
 
+-- "The core passes its state by value"
 abbrev pub flashOf : Setup → Bool → ℕ → Running → SpiNorFlash
 flashOf setup built delivered running = record { setup = setup; built = built; delivered = delivered; running = running }
 
+-- "nothing touched": the state as it was, and why
 abbrev pub refusedOf : SpiNorFlash → FlashError → Stepped
 refusedOf flash error = record { flash = flash; given = Given.Refused error }
 
+-- an action, "made by the drivers, read by the host"
 abbrev pub startedOf : SpiNorFlash → Action → Stepped
 startedOf flash action = record { flash = flash; given = Given.Act action }
 
@@ -30,6 +33,7 @@ startedOf flash action = record { flash = flash; given = Given.Act action }
 abbrev pub endedOf : Setup → ℕ → Answer → Stepped
 endedOf setup delivered answer = record { flash = flashOf setup true delivered Running.Idle; given = Given.Ended answer }
 
+-- "A begun call that ends otherwise keeps the bytes already delivered"
 abbrev pub failedOf : SpiNorFlash → FlashError → Stepped
 failedOf flash error = record { flash = flashOf (flash .setup) (flash .built) (flash .delivered) Running.Idle; given = Given.Failed error }
 

@@ -36,11 +36,13 @@ gaveOf flash job next delivered action =
 abbrev pub overOf : SpiNorFlash → Job → Outcome → Stepped
 overOf flash job outcome = settledOf flash (job .takes) (nextOf (flash .setup) (job .phase) outcome)
 
+-- "reply of another kind or length" is 14; a fitting one brings the transfer on, or ends it
 abbrev pub exchangedThen : SpiNorFlash → Job → ℕ → Exchanged → Stepped
 exchangedThen flash job delivered Exchanged.Misfit = refusedOf flash FlashError.Misfit
 exchangedThen flash job delivered (Exchanged.Gave next action) = gaveOf flash job next delivered action
 exchangedThen flash job delivered (Exchanged.Over outcome) = overOf flash job outcome
 
+-- and the lent bytes as the exchange leaves them
 abbrev pub afterwards : SpiNorFlash → Job → ℕ → AfterExchange → Moved
 afterwards flash job delivered x = movedTo (exchangedThen flash job delivered (x .exchanged)) (x .scratch) (x .buffer)
 

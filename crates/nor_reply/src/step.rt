@@ -14,7 +14,6 @@ use qspi::bus::Reply;
 use spi_flash::error::FlashError;
 use spi_flash::loan;
 ghost use mathlib.Core.Path.{_≡_};
-ghost use lib.ListN.{length};
 ghost use Rattle.nor_reply.specs.Step.{gaveOf, overOf, movedTo, proceedOf, stepOf, deliveredPart};
 
 // Another action of the transfer that is out.

@@ -24,10 +24,9 @@ use Rattle.spi_nor.specs.Opcode.{MAX-BULK-LEN}
 use Rattle.spi_nor.specs.Status.{busyOf, writeEnabledOf, quadEnabled1Of, quadEnabled2Of, unprotected1Of, unprotected2Of}
 use Rattle.spi_nor.specs.Config.{fromJedec, singleConfig, inBoundsOf}
 use Rattle.nor_phases.specs.Transfer.{placeOf, pageOf, readAt, readTransfer, programAt, programTransfer, inRange, multipleOf, unitSize, stepKind, afterUnit}
-use Rattle.nor_driver.specs.Call.{givenAt}
 use Rattle.nor_next.specs.Next.{byteOf}
 use Rattle.nor_steps.specs.Register.{deviceAt, deviceFor, idOf, knownAs}
-use Rattle.nor_driver.specs.Call.{freshSetup}
+use Rattle.nor_driver.specs.Call.{givenAt, freshSetup}
 use Rattle.nor_runs.specs.Rust.{read-status1, read-status2, is-busy, write-enable, write-status1, write-status2, jedec-id, unique-id, quad-enabled, enable-quad, disable-quad, reading, read, read-back, page-program, writing, write, erase-unit, erase-loop, erasing, erase, unprotect, quad-if, with-config}
 use Rattle.nor_runs.specs.Program.{Left, programOf}
 use Rattle.nor_runs.specs.Bound.{pageTaken, quadBound, constructionBound, unitBound, eraseSum, delayBound}

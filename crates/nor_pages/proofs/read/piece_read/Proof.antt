@@ -1,4 +1,3 @@
-use Rattle.nor_pages.specs.Read.{readFrom}
 use borrow.Author.Needs.{needs}
 use Rattle.nor_pages.proofs.read.piece_read.Statement.{statement}
 use Rattle.nor_pages.proofs.read.piece_read.Tie as tie
