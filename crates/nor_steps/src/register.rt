@@ -42,6 +42,7 @@ fn device_for(setup: Setup, id: NorJedecId) -> NorDeviceInfo
     }
 }
 
+// with_config, once the id has been read. A page that is too large is refused before anything is written to the part.
 pub fn identified(setup: Setup, v: u64) -> Then
     ensures { λ r. ⌜ r ≡ identifiedThen setup v ⌝ }
 {
@@ -99,7 +100,7 @@ pub fn enable_check1(setup: Setup, status1: u8) -> Then
     )
 }
 
-// The bit in status register 2, read back: a part that has not taken it has it in status register 1.
+// The bit in status register 2, read back: where the part has not taken it, status register 1 is tried.
 pub fn enable_verify2(setup: Setup, status2: u8) -> Then
     ensures { λ r. ⌜ r ≡ doneIf (quadEnabled2Of status2) setup (read1Then setup Phase.EnableRead1) ⌝ }
 {
@@ -112,6 +113,7 @@ pub fn enable_verify2(setup: Setup, status2: u8) -> Then
 
 // ---- disable_quad
 
+// Status register 2 first: where its bit is not set, status register 1 is looked at.
 pub fn disable_first(setup: Setup, status2: u8) -> Then
     ensures { λ r. ⌜ r ≡ disableFirst setup status2 ⌝ }
 {
