@@ -15,7 +15,8 @@ use Rattle.trace_words.specs.Request.{saidOf}
 use Rattle.trace_words.specs.declared.request.Form.{Form}
 use Rattle.trace_words.specs.declared.request.Request.{Request}
 use Rattle.nand_phases.specs.declared.call.Call.{Call}
-use Rattle.nand_words.specs.declared.call.Asked.{Asked}
+use Rattle.flash.specs.declared.state.Call as either
+use Rattle.flash_words.specs.declared.asked.Asked.{Asked}
 
 -- "geometry 2048 64 64 1024 NAND: page, spare, pages per block, blocks"
 abbrev pub ownName : List ℕ
@@ -67,7 +68,7 @@ unfoldable pub mostOf : ℕ → ℕ
 mostOf k = pick (eqb k 16) 255 18446744073709551615
 
 abbrev pub askedAt : ℕ → SpiNandConfig → Request → Asked
-askedAt k config (Request.Numbers first second takes) = Asked.Begin (callOf k config first second) takes
+askedAt k config (Request.Numbers first second takes) = Asked.Begin (either.Call.Nand (callOf k config first second)) takes
 askedAt k config Request.Bad = Asked.Bad
 
 -- the call whose name has the place k among the names

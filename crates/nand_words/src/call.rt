@@ -2,8 +2,8 @@
 use case_text::line::Four;
 use case_text::line::Quad;
 use case_text::word;
+use flash_words::asked::Asked;
 use nand_phases::call::Call;
-use spi_flash::loan::Takes;
 use spi_nand::config::GeometrySetting;
 use spi_nand::config::NandGeometry;
 use spi_nand::config::NandQuadConfig;
@@ -30,11 +30,6 @@ const LOAD_PROGRAM_DATA: usize = 20;
 const PAGE_READ: usize = 22;
 
 const NAMES: usize = 27;
-
-pub enum Asked {
-    Begin { call: Call, takes: Takes },
-    Bad,
-}
 
 // ---- settings
 
@@ -147,7 +142,7 @@ pub fn asked_by(line: &[u8], config: SpiNandConfig, room_len: usize) -> Asked
             second,
             takes,
         } => Asked::Begin {
-            call: call_of(k, config, first, second),
+            call: flash::state::Call::Nand(call_of(k, config, first, second)),
             takes,
         },
         Request::Bad => Asked::Bad,

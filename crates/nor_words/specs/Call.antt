@@ -14,7 +14,8 @@ use Rattle.trace_words.specs.Request.{saidOf}
 use Rattle.trace_words.specs.declared.request.Form.{Form}
 use Rattle.trace_words.specs.declared.request.Request.{Request}
 use Rattle.nor_phases.specs.declared.call.Call.{Call}
-use Rattle.nor_words.specs.declared.call.Asked.{Asked}
+use Rattle.flash.specs.declared.state.Call as either
+use Rattle.flash_words.specs.declared.asked.Asked.{Asked}
 
 -- "device 8388608 4096 65536 256 NOR: a device of the caller's own"
 abbrev pub ownName : List ℕ
@@ -66,7 +67,7 @@ formOf k =
     (pick (eqb k 16) Form.Data (pick (eqb k 17) Form.Two (pick (ltb k 20) Form.One Form.Unknown))))
 
 abbrev pub askedAt : ℕ → SpiNorConfig → Request → Asked
-askedAt k config (Request.Numbers first second takes) = Asked.Begin (callOf k config first second) takes
+askedAt k config (Request.Numbers first second takes) = Asked.Begin (either.Call.Nor (callOf k config first second)) takes
 askedAt k config Request.Bad = Asked.Bad
 
 -- the call whose name has the place k among the names; an offset of the Rust has 32 bits

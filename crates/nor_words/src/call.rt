@@ -2,8 +2,8 @@
 use case_text::line::Four;
 use case_text::line::Quad;
 use case_text::word;
+use flash_words::asked::Asked;
 use nor_phases::call::Call;
-use spi_flash::loan::Takes;
 use spi_nor::config::DeviceSetting;
 use spi_nor::config::NorDeviceInfo;
 use spi_nor::config::NorQuadConfig;
@@ -27,11 +27,6 @@ const WRITE: usize = 16;
 const ERASE: usize = 17;
 
 const NAMES: usize = 20;
-
-pub enum Asked {
-    Begin { call: Call, takes: Takes },
-    Bad,
-}
 
 // ---- settings
 
@@ -127,7 +122,7 @@ pub fn asked_by(line: &[u8], config: SpiNorConfig, room_len: usize) -> Asked
             second,
             takes,
         } => Asked::Begin {
-            call: call_of(k, config, first, second),
+            call: flash::state::Call::Nor(call_of(k, config, first, second)),
             takes,
         },
         Request::Bad => Asked::Bad,

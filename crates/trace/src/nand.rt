@@ -1,8 +1,10 @@
 // The NAND's trace.
-use nand_case::case;
+use flash::state::Kind;
+use trace_case::case;
 ghost use mathlib.Core.Path.{_≡_};
 ghost use Rattle.lines.specs.Text.{textOf};
-ghost use Rattle.nand_case.specs.Case.{caseOf};
+ghost use Rattle.flash.specs.declared.state.Kind.{Kind};
+ghost use Rattle.trace_case.specs.Case.{caseOf};
 
 // Puts the trace of a case into out and gives its length. What has no place there is cut. The room is the memory for a call's
 // buffer or data, the reply that for the bytes of a data reply.
@@ -13,9 +15,9 @@ pub extern "C" fn nand_trace_case(
     reply: &mut [u8],
     out: &mut [u8],
 ) -> usize
-    ensures { λ r. ⌜ textOf (now (out .exit)) r ≡ caseOf (now (text .entry)) (now (room .entry)) (now (reply .entry)) (now (out .entry)) .text ⌝ }
-    ensures { λ _. ⌜ now (room .exit) ≡ caseOf (now (text .entry)) (now (room .entry)) (now (reply .entry)) (now (out .entry)) .room ⌝ }
-    ensures { λ _. ⌜ now (reply .exit) ≡ caseOf (now (text .entry)) (now (room .entry)) (now (reply .entry)) (now (out .entry)) .reply ⌝ }
+    ensures { λ r. ⌜ textOf (now (out .exit)) r ≡ caseOf Kind.Nand (now (text .entry)) (now (room .entry)) (now (reply .entry)) (now (out .entry)) .text ⌝ }
+    ensures { λ _. ⌜ now (room .exit) ≡ caseOf Kind.Nand (now (text .entry)) (now (room .entry)) (now (reply .entry)) (now (out .entry)) .room ⌝ }
+    ensures { λ _. ⌜ now (reply .exit) ≡ caseOf Kind.Nand (now (text .entry)) (now (room .entry)) (now (reply .entry)) (now (out .entry)) .reply ⌝ }
 {
-    case::traced(text, room, reply, out)
+    case::traced(Kind::Nand, text, room, reply, out)
 }

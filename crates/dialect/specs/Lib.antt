@@ -1,0 +1,4 @@
+pub mod Settings
+pub mod Words
+pub mod Heard
+pub mod Hears

@@ -1,0 +1,55 @@
+-- A call and a reply handed to the driver, with what the call lends at the beginning of the room.
+use Prim.Native.Nat.{ℕ}
+use mathlib.Core.List.{List, [], _++_}
+use lib.ListN.{length, take, drop}
+use lib.Dec.{leb}
+use Rattle.qspi.specs.Choice.{pick}
+use Rattle.qspi.specs.declared.bus.Reply.{Reply}
+use Rattle.spi_flash.specs.declared.error.FlashError.{FlashError}
+use Rattle.spi_flash.specs.declared.loan.Takes.{Takes}
+use Rattle.trace_words.specs.Loan.{bufferOf, dataOf}
+use Rattle.flash.specs.Drive.{Moved, beginOf, movedTo, refusedOf, stepOf}
+use Rattle.flash.specs.declared.state.Call.{Call}
+use Rattle.flash.specs.declared.state.Flash.{Flash}
+use Rattle.flash.specs.declared.state.Stepped.{Stepped}
+use Rattle.flash_words.specs.declared.asked.Ask.{Ask}
+
+-- a call handed to the driver, with what it lends in the room
+unfoldable pub begunOver : Flash → Call → Takes → List ℕ → List ℕ → Moved
+begunOver flash call takes scratch room =
+    movedTo (beginOf flash call (length scratch) (length (bufferOf takes room)) (length (dataOf takes room))) scratch room
+
+-- ---- a reply to the action that is out
+
+-- the room as it was
+abbrev pub keptOver : List ℕ → Moved → Moved
+keptOver room m = movedTo (m .stepped) (m .scratch) room
+
+-- the buffer back at the beginning of the room
+abbrev pub backOver : ℕ → List ℕ → Moved → Moved
+backOver n room m = movedTo (m .stepped) (m .scratch) (m .buffer ++ drop n room)
+
+unfoldable pub noneOver : Flash → Reply → List ℕ → List ℕ → List ℕ → Moved
+noneOver flash reply bytes scratch room = keptOver room (stepOf flash reply bytes scratch [] [])
+
+unfoldable pub bufferOver : Flash → Reply → List ℕ → ℕ → List ℕ → List ℕ → Moved
+bufferOver flash reply bytes n scratch room =
+    pick (leb n (length room)) (backOver n room (stepOf flash reply bytes scratch (take n room) []))
+    (movedTo (refusedOf flash FlashError.Misfit) scratch room)
+
+unfoldable pub dataOver : Flash → Reply → List ℕ → ℕ → List ℕ → List ℕ → Moved
+dataOver flash reply bytes n scratch room = keptOver room (stepOf flash reply bytes scratch [] (take n room))
+
+unfoldable pub answeredOver : Flash → Reply → List ℕ → Takes → List ℕ → List ℕ → Moved
+answeredOver flash reply bytes Takes.Nothing scratch room = noneOver flash reply bytes scratch room
+answeredOver flash reply bytes (Takes.Buffer n) scratch room = bufferOver flash reply bytes n scratch room
+answeredOver flash reply bytes (Takes.Data n) scratch room = dataOver flash reply bytes n scratch room
+
+-- ---- whatever a turn asks
+
+-- a reply's bytes are the first of the reply's memory; a call that is stopped stays unfinished
+unfoldable pub askedOver : Stepped → Ask → List ℕ → List ℕ → List ℕ → Moved
+askedOver stepped Ask.Nothing scratch room reply = movedTo stepped scratch room
+askedOver stepped (Ask.Begin call takes) scratch room reply = begunOver (stepped .flash) call takes scratch room
+askedOver stepped (Ask.Answer by n takes) scratch room reply = answeredOver (stepped .flash) by (take n reply) takes scratch room
+askedOver stepped (Ask.Stop error) scratch room reply = movedTo (refusedOf (stepped .flash) error) scratch room

@@ -1,0 +1,5 @@
+pub mod State
+pub mod Reading
+pub mod Giving
+pub mod Answering
+pub mod Turn

@@ -1,0 +1,30 @@
+-- Where a trace stands, with its driver.
+use Prim.Native.Nat.{ℕ}
+use mathlib.Core.Bool.{Bool}
+use Rattle.spi_flash.specs.declared.error.FlashError.{FlashError}
+use Rattle.flash.specs.Drive.{notBuilt, refusedOf}
+use Rattle.flash.specs.declared.state.Kind.{Kind}
+use Rattle.flash.specs.declared.state.Stepped.{Stepped}
+use Rattle.trace_turns.specs.Place as place
+use Rattle.trace_turns.specs.declared.place.Place.{Place}
+use Rattle.dialect.specs.Settings.{noneOf}
+use Rattle.dialect.specs.declared.settings.Settings.{Settings}
+use Rattle.flash_turns.specs.State.{begunIn}
+use Rattle.flash_turns.specs.declared.state.Turn.{Turn}
+use Rattle.trace_case.specs.declared.state.Trace.{Trace}
+use Rattle.trace_case.specs.declared.state.Traced.{Traced}
+
+abbrev pub traceOf : Stepped → Settings → Place → Trace
+traceOf stepped settings place = record { stepped = stepped; settings = settings; place = place }
+
+-- no driver is built, and the settings are "none at first"
+abbrev pub startOf : Kind → Trace
+startOf kind = traceOf (refusedOf (notBuilt kind) FlashError.OutOfTurn) (noneOf kind) place.startOf
+
+abbrev pub overAt : Trace → Bool
+overAt trace = place.overOf (trace .place)
+
+-- after a turn whose question has been answered by the driver
+abbrev pub tracedBy : Turn → Stepped → Traced
+tracedBy turn stepped =
+    record { trace = traceOf stepped (turn .settings) (begunIn (turn .place) (turn .ask) (stepped .given)); at = turn .at }

@@ -1,0 +1,44 @@
+// One turn of a trace, and what it asks of the driver.
+use crate::state;
+use crate::state::Trace;
+use crate::state::Traced;
+use flash::drive;
+use flash_lent::lent;
+use flash_turns::turn;
+ghost use mathlib.Core.Path.{_≡_};
+ghost use Rattle.lines.specs.Text.{textOf};
+ghost use Rattle.trace_case.specs.Advance.{turnedTo, advancedOf};
+
+// A trace that is over stays as it is.
+pub fn advance(
+    trace: Trace,
+    text: &[u8],
+    scratch: &mut [u8],
+    room: &mut [u8],
+    reply: &mut [u8],
+    out: &mut [u8],
+    at: usize,
+) -> Traced
+    ensures { λ r. ⌜ turnedTo (r .trace) (now (scratch .exit)) (now (room .exit)) (now (reply .exit)) (textOf (now (out .exit)) (r .at)) ≡ advancedOf trace (now (text .entry)) (now (scratch .entry)) (now (room .entry)) (now (reply .entry)) (textOf (now (out .entry)) at) ⌝ }
+{
+    let stepped = trace.stepped;
+    let flash = stepped.flash;
+    let given = stepped.given;
+    let settings = trace.settings;
+    let place = trace.place;
+    let n = drive::count(flash);
+    let turn = turn::turn(
+        settings,
+        place,
+        given,
+        n,
+        text,
+        scratch,
+        room,
+        reply,
+        out,
+        at,
+    );
+    let ask = turn.ask;
+    state::traced_by(turn, lent::asked(stepped, ask, scratch, room, reply))
+}

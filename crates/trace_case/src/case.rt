@@ -1,0 +1,32 @@
+// The trace of a whole case.
+use crate::advance;
+use crate::state;
+use flash::state::Kind;
+use trace_turns::budget;
+ghost use mathlib.Core.Path.{_≡_};
+ghost use Rattle.lines.specs.Text.{textOf};
+ghost use Rattle.trace_case.specs.Case.{caseOf};
+
+// Puts the trace of a case into out and gives its length. What has no place there is cut. The room is the memory for a call's
+// buffer or data, the reply that for the bytes of a data reply.
+pub fn traced(kind: Kind, text: &[u8], room: &mut [u8], reply: &mut [u8], out: &mut [u8]) -> usize
+    ensures { λ r. ⌜ textOf (now (out .exit)) r ≡ caseOf kind (now (text .entry)) (now (room .entry)) (now (reply .entry)) (now (out .entry)) .text ⌝ }
+    ensures { λ _. ⌜ now (room .exit) ≡ caseOf kind (now (text .entry)) (now (room .entry)) (now (reply .entry)) (now (out .entry)) .room ⌝ }
+    ensures { λ _. ⌜ now (reply .exit) ≡ caseOf kind (now (text .entry)) (now (room .entry)) (now (reply .entry)) (now (out .entry)) .reply ⌝ }
+{
+    let mut scratch = [0u8; 264];
+    let mut trace = state::start(kind);
+    let mut at = 0;
+    let most = budget::budget(text.len(), room.len());
+    let mut i = 0;
+    while i < most {
+        if state::over(trace) {
+            return at;
+        }
+        let next = advance::advance(trace, text, &mut scratch, room, reply, out, at);
+        trace = next.trace;
+        at = next.at;
+        i += 1;
+    }
+    at
+}
