@@ -85,6 +85,12 @@ norMoved m = movedTo (norStepped (m .stepped)) (m .scratch) (m .buffer)
 abbrev pub nandMoved : nandStep.Moved → Moved
 nandMoved m = movedTo (nandStepped (m .stepped)) (m .scratch) (m .buffer)
 
+unfoldable pub norMovedOf : SpiNorFlash → Reply → List ℕ → List ℕ → List ℕ → List ℕ → Moved
+norMovedOf flash reply bytes scratch buffer lent = norMoved (norStep.stepOf flash reply bytes scratch buffer lent)
+
+unfoldable pub nandMovedOf : SpiNandFlash → Reply → List ℕ → List ℕ → List ℕ → List ℕ → Moved
+nandMovedOf flash reply bytes scratch buffer lent = nandMoved (nandStep.stepOf flash reply bytes scratch buffer lent)
+
 unfoldable pub stepOf : Flash → Reply → List ℕ → List ℕ → List ℕ → List ℕ → Moved
-stepOf (Flash.Nor flash) reply bytes scratch buffer lent = norMoved (norStep.stepOf flash reply bytes scratch buffer lent)
-stepOf (Flash.Nand flash) reply bytes scratch buffer lent = nandMoved (nandStep.stepOf flash reply bytes scratch buffer lent)
+stepOf (Flash.Nor flash) reply bytes scratch buffer lent = norMovedOf flash reply bytes scratch buffer lent
+stepOf (Flash.Nand flash) reply bytes scratch buffer lent = nandMovedOf flash reply bytes scratch buffer lent

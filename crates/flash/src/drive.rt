@@ -11,15 +11,15 @@ use qspi::bus::Reply;
 use spi_flash::error::FlashError;
 ghost use mathlib.Core.Path.{_≡_};
 ghost use lib.ListN.{length};
-ghost use Rattle.flash.specs.Drive.{notBuilt, refusedOf, countOf, norGiven, nandGiven, norStepped, nandStepped, norBegun, nandBegun, beginOf, movedTo, stepOf};
+ghost use Rattle.flash.specs.Drive.{notBuilt, refusedOf, countOf, norGiven, nandGiven, norStepped, nandStepped, norBegun, nandBegun, beginOf, movedTo, norMovedOf, nandMovedOf, stepOf};
 
 // A driver before any construction.
 pub fn not_built(kind: Kind) -> Flash
     ensures { λ r. ⌜ r ≡ notBuilt kind ⌝ }
 {
     match kind {
-        Kind::Nor => Flash::Nor(SpiNorFlash::not_built()),
-        Kind::Nand => Flash::Nand(SpiNandFlash::not_built()),
+        Kind::Nor => return Flash::Nor(SpiNorFlash::not_built()),
+        Kind::Nand => return Flash::Nand(SpiNandFlash::not_built()),
     }
 }
 
@@ -95,8 +95,8 @@ fn nor_begin(flash: SpiNorFlash, call: Call, scratch: &[u8], buffer: &[u8], data
     ensures { λ r. ⌜ r ≡ norBegun flash call (length (now (scratch .entry))) (length (now (buffer .entry))) (length (now («data» .entry))) ⌝ }
 {
     match call {
-        Call::Nor(own) => nor_stepped(flash.begin(own, scratch, buffer, data)),
-        Call::Nand(_) => refused(Flash::Nor(flash), FlashError::OutOfTurn),
+        Call::Nor(own) => return nor_stepped(flash.begin(own, scratch, buffer, data)),
+        Call::Nand(_) => return refused(Flash::Nor(flash), FlashError::OutOfTurn),
     }
 }
 
@@ -110,8 +110,8 @@ fn nand_begin(
     ensures { λ r. ⌜ r ≡ nandBegun flash call (length (now (scratch .entry))) (length (now (buffer .entry))) (length (now («data» .entry))) ⌝ }
 {
     match call {
-        Call::Nor(_) => refused(Flash::Nand(flash), FlashError::OutOfTurn),
-        Call::Nand(own) => nand_stepped(flash.begin(own, scratch, buffer, data)),
+        Call::Nor(_) => return refused(Flash::Nand(flash), FlashError::OutOfTurn),
+        Call::Nand(own) => return nand_stepped(flash.begin(own, scratch, buffer, data)),
     }
 }
 
@@ -120,12 +120,38 @@ pub fn begin(flash: Flash, call: Call, scratch: &[u8], buffer: &[u8], data: &[u8
     ensures { λ r. ⌜ r ≡ beginOf flash call (length (now (scratch .entry))) (length (now (buffer .entry))) (length (now («data» .entry))) ⌝ }
 {
     match flash {
-        Flash::Nor(nor) => nor_begin(nor, call, scratch, buffer, data),
-        Flash::Nand(nand) => nand_begin(nand, call, scratch, buffer, data),
+        Flash::Nor(nor) => return nor_begin(nor, call, scratch, buffer, data),
+        Flash::Nand(nand) => return nand_begin(nand, call, scratch, buffer, data),
     }
 }
 
 // ---- a reply
+
+fn nor_step(
+    flash: SpiNorFlash,
+    reply: Reply,
+    bytes: &[u8],
+    scratch: &mut [u8],
+    buffer: &mut [u8],
+    data: &[u8],
+) -> Stepped
+    ensures { λ r. ⌜ movedTo r (now (scratch .exit)) (now (buffer .exit)) ≡ norMovedOf flash reply (now (bytes .entry)) (now (scratch .entry)) (now (buffer .entry)) (now («data» .entry)) ⌝ }
+{
+    nor_stepped(nor_driver::step::step(flash, reply, bytes, scratch, buffer, data))
+}
+
+fn nand_step(
+    flash: SpiNandFlash,
+    reply: Reply,
+    bytes: &[u8],
+    scratch: &mut [u8],
+    buffer: &mut [u8],
+    data: &[u8],
+) -> Stepped
+    ensures { λ r. ⌜ movedTo r (now (scratch .exit)) (now (buffer .exit)) ≡ nandMovedOf flash reply (now (bytes .entry)) (now (scratch .entry)) (now (buffer .entry)) (now («data» .entry)) ⌝ }
+{
+    nand_stepped(nand_reply::step::step(flash, reply, bytes, scratch, buffer, data))
+}
 
 // Takes the reply to the action that is out, and gives the next action or the call's end.
 pub fn step(
@@ -139,21 +165,7 @@ pub fn step(
     ensures { λ r. ⌜ movedTo r (now (scratch .exit)) (now (buffer .exit)) ≡ stepOf flash reply (now (bytes .entry)) (now (scratch .entry)) (now (buffer .entry)) (now («data» .entry)) ⌝ }
 {
     match flash {
-        Flash::Nor(nor) => nor_stepped(nor_driver::step::step(
-            nor,
-            reply,
-            bytes,
-            scratch,
-            buffer,
-            data,
-        )),
-        Flash::Nand(nand) => nand_stepped(nand_reply::step::step(
-            nand,
-            reply,
-            bytes,
-            scratch,
-            buffer,
-            data,
-        )),
+        Flash::Nor(nor) => return nor_step(nor, reply, bytes, scratch, buffer, data),
+        Flash::Nand(nand) => return nand_step(nand, reply, bytes, scratch, buffer, data),
     }
 }

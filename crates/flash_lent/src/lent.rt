@@ -88,9 +88,9 @@ fn answered(
     ensures { λ r. ⌜ movedTo r (now (scratch .exit)) (now (room .exit)) ≡ answeredOver flash reply (now (bytes .entry)) takes (now (scratch .entry)) (now (room .entry)) ⌝ }
 {
     match takes {
-        Takes::Nothing => with_none(flash, reply, bytes, scratch),
-        Takes::Buffer(n) => with_buffer(flash, reply, bytes, n, scratch, room),
-        Takes::Data(n) => with_data(flash, reply, bytes, n, scratch, room),
+        Takes::Nothing => return with_none(flash, reply, bytes, scratch),
+        Takes::Buffer(n) => return with_buffer(flash, reply, bytes, n, scratch, room),
+        Takes::Data(n) => return with_data(flash, reply, bytes, n, scratch, room),
     }
 }
 

@@ -29,7 +29,7 @@ begin-spec =
     (tie.spec
     enum-known-flash
     nor-begin-requires
+    returns
     enum-known-flash-2
     nand-begin-requires
-    returns
     returns-2)

@@ -32,8 +32,8 @@ nand-begin-spec =
     (tie.spec
     enum-told
     refused-requires
+    returns
     enum-known-call
     begin-requires
     nand-stepped-requires
-    returns
     returns-2)

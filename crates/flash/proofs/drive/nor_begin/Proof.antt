@@ -33,7 +33,7 @@ nor-begin-spec =
     enum-known-call
     begin-requires
     nor-stepped-requires
+    returns
     enum-told
     refused-requires
-    returns
     returns-2)

@@ -23,4 +23,10 @@ returns-2 c = simp (c .before .enum-told2 .given .1, ← c .not-built2 .ensures)
 pub not-built-spec : {M : Type 1} → statement M
 not-built-spec =
     tie.close
-    (tie.spec enum-told not-built-requires enum-told-2 not-built-requires-2 returns returns-2)
+    (tie.spec
+    enum-told
+    not-built-requires
+    returns
+    enum-told-2
+    not-built-requires-2
+    returns-2)

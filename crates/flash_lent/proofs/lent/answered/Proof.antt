@@ -56,15 +56,15 @@ answered-spec =
     (tie.spec
     enum-told
     with-none-requires
-    enum-known-takes
-    with-buffer-requires
-    enum-known-takes-2
-    with-data-requires
     same-length
     returns
+    enum-known-takes
+    with-buffer-requires
     same-length-2
     same-length-3
     returns-2
+    enum-known-takes-2
+    with-data-requires
     same-length-4
     same-length-5
     returns-3)
