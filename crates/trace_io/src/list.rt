@@ -15,14 +15,28 @@ const MARK_LEN: usize = 2;
 // No list has more cases.
 const CASES_MOST: usize = 1000;
 
+// No case takes or prints more.
+const MOST: usize = 65536;
+
+// The memory is lent as arrays: only their length is asked for then.
+fn print(
+    kind: Kind,
+    text: &[u8],
+    room: &mut [u8; MOST],
+    reply: &mut [u8; MOST],
+    out: &mut [u8; MOST],
+) {
+    let n = case::traced(kind, text, room, reply, out);
+    io::write_all(STDOUT, bytes::delivered(out, n));
+    io::write_all(STDOUT, b"%\n");
+}
+
 // Prints the trace of one case.
 fn show(kind: Kind, text: &[u8]) {
-    let mut room = [0u8; 65536];
-    let mut reply = [0u8; 65536];
-    let mut out = [0u8; 65536];
-    let n = case::traced(kind, text, &mut room, &mut reply, &mut out);
-    io::write_all(STDOUT, bytes::delivered(&out, n));
-    io::write_all(STDOUT, b"%\n");
+    let mut room = [0u8; MOST];
+    let mut reply = [0u8; MOST];
+    let mut out = [0u8; MOST];
+    print(kind, text, &mut room, &mut reply, &mut out);
 }
 
 pub fn print_list(kind: Kind) {
