@@ -15,6 +15,7 @@ use Rattle.frames.specs.Frame.{actionAt, startAction, sinkOf, frameAt, takenAt,
 use Rattle.frames.specs.ShownBytes.{shownAt}
 use Rattle.qspi.specs.declared.bus.Reply.{Reply}
 use Rattle.qspi.specs.declared.transfer.Sink.{Sink}
+use Rattle.qspi.specs.declared.transfer.Body.{Body}
 use Rattle.qspi.specs.declared.transfer.Transfer.{Transfer}
 use Rattle.frames.specs.declared.frame.Stage.{Stage}
 use Rattle.frames.specs.declared.frame.Outcome.{Outcome}
@@ -59,11 +60,11 @@ module _ (reads : List ℕ → Bool) (len : ℕ) where
   abbrev pub FillsBy : ℕ → Transfer → (ℕ → Type 0) → Type 0
   FillsBy n Transfer.Raise later = later n
   FillsBy n (Transfer.Pause us) later = later n
-  FillsBy n (Transfer.Send c) later = later n
-  FillsBy n (Transfer.Read c m sink) later = FillsSink (reads (commandBytes c)) len n m sink later
-  FillsBy n (Transfer.Write c payload) later = later n
-  FillsBy n (Transfer.QuadRead c tclqv margin m sink) later = FillsSink true len n m sink later
-  FillsBy n (Transfer.QuadWrite c payload) later = later n
+  FillsBy n (Transfer.Framed c Body.None) later = later n
+  FillsBy n (Transfer.Framed c (Body.Read m sink)) later = FillsSink (reads (commandBytes c)) len n m sink later
+  FillsBy n (Transfer.Framed c (Body.Write payload)) later = later n
+  FillsBy n (Transfer.Framed c (Body.QuadRead tclqv margin m sink)) later = FillsSink true len n m sink later
+  FillsBy n (Transfer.Framed c (Body.QuadWrite payload)) later = later n
 
   -- every byte read for the caller goes to the buffer, behind the n that were read before
   abbrev pub Fills : {A : Type 0} → ℕ → Prog A → Type 0
@@ -89,18 +90,18 @@ module _ (reads : List ℕ → Bool) (len : ℕ) where
   MineAt Stage.Start t mine = Unit {0}
   MineAt Stage.Command Transfer.Raise mine = Unit {0}
   MineAt Stage.Command (Transfer.Pause us) mine = Unit {0}
-  MineAt Stage.Command (Transfer.Send c) mine = Unit {0}
-  MineAt Stage.Command (Transfer.Read c m sink) mine = mine ≡ reads (commandBytes c)
-  MineAt Stage.Command (Transfer.Write c payload) mine = Unit {0}
-  MineAt Stage.Command (Transfer.QuadRead c tclqv margin m sink) mine = Unit {0}
-  MineAt Stage.Command (Transfer.QuadWrite c payload) mine = Unit {0}
+  MineAt Stage.Command (Transfer.Framed c Body.None) mine = Unit {0}
+  MineAt Stage.Command (Transfer.Framed c (Body.Read m sink)) mine = mine ≡ reads (commandBytes c)
+  MineAt Stage.Command (Transfer.Framed c (Body.Write payload)) mine = Unit {0}
+  MineAt Stage.Command (Transfer.Framed c (Body.QuadRead tclqv margin m sink)) mine = Unit {0}
+  MineAt Stage.Command (Transfer.Framed c (Body.QuadWrite payload)) mine = Unit {0}
   MineAt Stage.Payload Transfer.Raise mine = Unit {0}
   MineAt Stage.Payload (Transfer.Pause us) mine = Unit {0}
-  MineAt Stage.Payload (Transfer.Send c) mine = Unit {0}
-  MineAt Stage.Payload (Transfer.Read c m sink) mine = mine ≡ reads (commandBytes c)
-  MineAt Stage.Payload (Transfer.Write c payload) mine = Unit {0}
-  MineAt Stage.Payload (Transfer.QuadRead c tclqv margin m sink) mine = mine ≡ true
-  MineAt Stage.Payload (Transfer.QuadWrite c payload) mine = Unit {0}
+  MineAt Stage.Payload (Transfer.Framed c Body.None) mine = Unit {0}
+  MineAt Stage.Payload (Transfer.Framed c (Body.Read m sink)) mine = mine ≡ reads (commandBytes c)
+  MineAt Stage.Payload (Transfer.Framed c (Body.Write payload)) mine = Unit {0}
+  MineAt Stage.Payload (Transfer.Framed c (Body.QuadRead tclqv margin m sink)) mine = mine ≡ true
+  MineAt Stage.Payload (Transfer.Framed c (Body.QuadWrite payload)) mine = Unit {0}
   MineAt Stage.High t mine = Unit {0}
 
   -- a frame that a call comes to
@@ -177,40 +178,40 @@ module _ (reads : List ℕ → Bool) (len : ℕ) where
     fed-start : (t : Transfer) → Fills n (ask t k) → Fed n mine k Stage.Start t o Reply.Done bytes
     fed-start Transfer.Raise h = quiet (λ given. fills-on o h)
     fed-start (Transfer.Pause us) h = quiet (λ given. fills-on o h)
-    fed-start (Transfer.Send c) h = quiet (λ given. record { reached = tt; whose = tt; fills = h })
-    fed-start (Transfer.Read c m sink) h = quiet (λ given. record { reached = tt; whose = refl; fills = h })
-    fed-start (Transfer.Write c payload) h = quiet (λ given. record { reached = tt; whose = tt; fills = h })
-    fed-start (Transfer.QuadRead c tclqv margin m sink) h = quiet (λ given. record { reached = tt; whose = refl; fills = h })
-    fed-start (Transfer.QuadWrite c payload) h = quiet (λ given. record { reached = tt; whose = tt; fills = h })
+    fed-start (Transfer.Framed c Body.None) h = quiet (λ given. record { reached = tt; whose = tt; fills = h })
+    fed-start (Transfer.Framed c (Body.Read m sink)) h = quiet (λ given. record { reached = tt; whose = refl; fills = h })
+    fed-start (Transfer.Framed c (Body.Write payload)) h = quiet (λ given. record { reached = tt; whose = tt; fills = h })
+    fed-start (Transfer.Framed c (Body.QuadRead tclqv margin m sink)) h = quiet (λ given. record { reached = tt; whose = refl; fills = h })
+    fed-start (Transfer.Framed c (Body.QuadWrite payload)) h = quiet (λ given. record { reached = tt; whose = tt; fills = h })
 
     fed-command : (t : Transfer) → Filling n mine k Stage.Command t o → Fed n mine k Stage.Command t o Reply.Done bytes
     fed-command Transfer.Raise h = absurd (h .reached)
     fed-command (Transfer.Pause us) h = absurd (h .reached)
-    fed-command (Transfer.Send c) h = quiet (λ given. record { reached = tt; whose = tt; fills = fills-on o (h .fills) })
-    fed-command (Transfer.Read c m sink) h = quiet (λ given. record { reached = tt; whose = h .whose; fills = h .fills })
-    fed-command (Transfer.Write c payload) h = quiet (λ given. record { reached = tt; whose = tt; fills = h .fills })
-    fed-command (Transfer.QuadRead c tclqv margin m sink) h = absurd (h .reached)
-    fed-command (Transfer.QuadWrite c payload) h = absurd (h .reached)
+    fed-command (Transfer.Framed c Body.None) h = quiet (λ given. record { reached = tt; whose = tt; fills = fills-on o (h .fills) })
+    fed-command (Transfer.Framed c (Body.Read m sink)) h = quiet (λ given. record { reached = tt; whose = h .whose; fills = h .fills })
+    fed-command (Transfer.Framed c (Body.Write payload)) h = quiet (λ given. record { reached = tt; whose = tt; fills = h .fills })
+    fed-command (Transfer.Framed c (Body.QuadRead tclqv margin m sink)) h = absurd (h .reached)
+    fed-command (Transfer.Framed c (Body.QuadWrite payload)) h = absurd (h .reached)
 
     -- no command is answered by data
     no-data : (t : Transfer) → Reached Stage.Command t → fitsAt (awaitsOf (actionAt Stage.Command t)) Reply.Data (length bytes) ≡ true → ⊥
     no-data Transfer.Raise p fit = p
     no-data (Transfer.Pause us) p fit = p
-    no-data (Transfer.Send c) p fit = false≢true fit
-    no-data (Transfer.Read c m sink) p fit = false≢true fit
-    no-data (Transfer.Write c payload) p fit = false≢true fit
-    no-data (Transfer.QuadRead c tclqv margin m sink) p fit = p
-    no-data (Transfer.QuadWrite c payload) p fit = p
+    no-data (Transfer.Framed c Body.None) p fit = false≢true fit
+    no-data (Transfer.Framed c (Body.Read m sink)) p fit = false≢true fit
+    no-data (Transfer.Framed c (Body.Write payload)) p fit = false≢true fit
+    no-data (Transfer.Framed c (Body.QuadRead tclqv margin m sink)) p fit = p
+    no-data (Transfer.Framed c (Body.QuadWrite payload)) p fit = p
 
     fed-done : (t : Transfer) → Filling n mine k Stage.Payload t o → fitsAt (awaitsOf (actionAt Stage.Payload t)) Reply.Done (length bytes) ≡ true →
         Fed n mine k Stage.Payload t o Reply.Done bytes
     fed-done Transfer.Raise h fit = absurd (h .reached)
     fed-done (Transfer.Pause us) h fit = absurd (h .reached)
-    fed-done (Transfer.Send c) h fit = absurd (h .reached)
-    fed-done (Transfer.Read c m sink) h fit = absurd (false≢true fit)
-    fed-done (Transfer.Write c payload) h fit = quiet (λ given. record { reached = tt; whose = tt; fills = fills-on o (h .fills) })
-    fed-done (Transfer.QuadRead c tclqv margin m sink) h fit = absurd (false≢true fit)
-    fed-done (Transfer.QuadWrite c payload) h fit = quiet (λ given. record { reached = tt; whose = tt; fills = fills-on o (h .fills) })
+    fed-done (Transfer.Framed c Body.None) h fit = absurd (h .reached)
+    fed-done (Transfer.Framed c (Body.Read m sink)) h fit = absurd (false≢true fit)
+    fed-done (Transfer.Framed c (Body.Write payload)) h fit = quiet (λ given. record { reached = tt; whose = tt; fills = fills-on o (h .fills) })
+    fed-done (Transfer.Framed c (Body.QuadRead tclqv margin m sink)) h fit = absurd (false≢true fit)
+    fed-done (Transfer.Framed c (Body.QuadWrite payload)) h fit = quiet (λ given. record { reached = tt; whose = tt; fills = fills-on o (h .fills) })
 
     -- what is known of the command is known of its data
     told-whose : (b : Bool) (m : ℕ) (sink : Sink) → mine ≡ b → FillsSink b len n m sink (λ i. (v : ℕ) → Fills i (k v)) → FillsSink mine len n m sink (λ i. (v : ℕ) → Fills i (k v))
@@ -220,13 +221,13 @@ module _ (reads : List ℕ → Bool) (len : ℕ) where
         Fed n mine k Stage.Payload t o Reply.Data bytes
     fed-data Transfer.Raise h fit = absurd (h .reached)
     fed-data (Transfer.Pause us) h fit = absurd (h .reached)
-    fed-data (Transfer.Send c) h fit = absurd (h .reached)
-    fed-data (Transfer.Read c m sink) h fit =
-        fed-payload m (Transfer.Read c m sink) sink refl (eqb-true (length bytes) m fit) (told-whose (reads (commandBytes c)) m sink (h .whose) (h .fills))
-    fed-data (Transfer.Write c payload) h fit = absurd (false≢true fit)
-    fed-data (Transfer.QuadRead c tclqv margin m sink) h fit =
-        fed-payload m (Transfer.QuadRead c tclqv margin m sink) sink refl (eqb-true (length bytes) m fit) (told-whose true m sink (h .whose) (h .fills))
-    fed-data (Transfer.QuadWrite c payload) h fit = absurd (false≢true fit)
+    fed-data (Transfer.Framed c Body.None) h fit = absurd (h .reached)
+    fed-data (Transfer.Framed c (Body.Read m sink)) h fit =
+        fed-payload m (Transfer.Framed c (Body.Read m sink)) sink refl (eqb-true (length bytes) m fit) (told-whose (reads (commandBytes c)) m sink (h .whose) (h .fills))
+    fed-data (Transfer.Framed c (Body.Write payload)) h fit = absurd (false≢true fit)
+    fed-data (Transfer.Framed c (Body.QuadRead tclqv margin m sink)) h fit =
+        fed-payload m (Transfer.Framed c (Body.QuadRead tclqv margin m sink)) sink refl (eqb-true (length bytes) m fit) (told-whose true m sink (h .whose) (h .fills))
+    fed-data (Transfer.Framed c (Body.QuadWrite payload)) h fit = absurd (false≢true fit)
 
     no-start-data : (t : Transfer) → fitsAt (awaitsOf (startAction t)) Reply.Data (length bytes) ≡ true → ⊥
     no-start-data t fit = false≢true (subst (λ a. fitsAt a Reply.Data (length bytes) ≡ true) (done-at-start t) fit)

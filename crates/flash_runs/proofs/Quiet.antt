@@ -7,6 +7,7 @@ use lib.Dec.{leb}
 use Rattle.qspi.specs.Command.{commandBytes}
 use Rattle.qspi.specs.declared.command.Command.{Command}
 use Rattle.qspi.specs.declared.transfer.Sink.{Sink}
+use Rattle.qspi.specs.declared.transfer.Body.{Body}
 use Rattle.qspi.specs.declared.transfer.Transfer.{Transfer}
 use Rattle.spi_flash.specs.Prog.{Prog, ret, fail, ask, if_then_else_, _>>=_, _>>_, refuse, transfer}
 use Rattle.spi_flash.specs.WaitLaw.{waitLoop, waiting, delayedWait}
@@ -24,11 +25,11 @@ module _ (reads : List ℕ → Bool) where
   abbrev pub QuietBy : Transfer → Type 0
   QuietBy Transfer.Raise = Unit {0}
   QuietBy (Transfer.Pause us) = Unit {0}
-  QuietBy (Transfer.Send c) = Unit {0}
-  QuietBy (Transfer.Read c m sink) = QuietRead c sink
-  QuietBy (Transfer.Write c payload) = Unit {0}
-  QuietBy (Transfer.QuadRead c tclqv margin m sink) = ⊥
-  QuietBy (Transfer.QuadWrite c payload) = Unit {0}
+  QuietBy (Transfer.Framed c Body.None) = Unit {0}
+  QuietBy (Transfer.Framed c (Body.Read m sink)) = QuietRead c sink
+  QuietBy (Transfer.Framed c (Body.Write payload)) = Unit {0}
+  QuietBy (Transfer.Framed c (Body.QuadRead tclqv margin m sink)) = ⊥
+  QuietBy (Transfer.Framed c (Body.QuadWrite payload)) = Unit {0}
 
   abbrev QuietTree : {A : Type 0} → Prog A → Type 0
   QuietTree (ret a) = Unit {0}
@@ -92,13 +93,13 @@ module _ (reads : List ℕ → Bool) where
     fills-asked : {B : Type 0} (t : Transfer) (k : ℕ → Prog B) → QuietBy t → ((v : ℕ) → Fills reads len n (k v)) → Fills reads len n (ask t k)
     fills-asked Transfer.Raise k r later = later
     fills-asked (Transfer.Pause us) k r later = later
-    fills-asked (Transfer.Send c) k r later = later
-    fills-asked (Transfer.Read c m Sink.Number) k r later = (r, later)
-    fills-asked (Transfer.Read c m (Sink.Buffer place)) k r later = absurd r
-    fills-asked (Transfer.Read c m (Sink.Compare from)) k r later = absurd r
-    fills-asked (Transfer.Write c payload) k r later = later
-    fills-asked (Transfer.QuadRead c tclqv margin m sink) k r later = absurd r
-    fills-asked (Transfer.QuadWrite c payload) k r later = later
+    fills-asked (Transfer.Framed c Body.None) k r later = later
+    fills-asked (Transfer.Framed c (Body.Read m Sink.Number)) k r later = (r, later)
+    fills-asked (Transfer.Framed c (Body.Read m (Sink.Buffer place))) k r later = absurd r
+    fills-asked (Transfer.Framed c (Body.Read m (Sink.Compare from))) k r later = absurd r
+    fills-asked (Transfer.Framed c (Body.Write payload)) k r later = later
+    fills-asked (Transfer.Framed c (Body.QuadRead tclqv margin m sink)) k r later = absurd r
+    fills-asked (Transfer.Framed c (Body.QuadWrite payload)) k r later = later
 
     fills-tree : {A B : Type 0} (p : Prog A) (f : A → Prog B) → QuietTree p → ((a : A) → Fills reads len n (f a)) → Fills reads len n (p >>= f)
     unfolding _>>=_

@@ -5,6 +5,7 @@ use mathlib.Core.Bool.{Bool, true, false, true≢false}
 use mathlib.Core.Path.{_≡_, refl, ap, sym, _∙_}
 use mathlib.Core.List.{List, [], _∷_}
 use lib.ListN.{length}
+use Rattle.qspi.specs.declared.transfer.Body.{Body}
 use Rattle.qspi.specs.declared.transfer.Transfer.{Transfer}
 use Rattle.spi_flash.specs.Loan.{Lent, readyFor}
 use Rattle.spi_flash.specs.OnBus.{_>>=_, _>>_, reading, framed, framedThen, onBus, programOnBus, performed}
@@ -36,11 +37,11 @@ first-acts given buffer (ret a) h = absurd h
 first-acts given buffer (fail e) h = absurd h
 first-acts given buffer (ask Transfer.Raise k) h = refl
 first-acts given buffer (ask (Transfer.Pause us) k) h = refl
-first-acts given buffer (ask (Transfer.Send c) k) h = refl
-first-acts given buffer (ask (Transfer.Read c n sink) k) h = refl
-first-acts given buffer (ask (Transfer.Write c payload) k) h = refl
-first-acts given buffer (ask (Transfer.QuadRead c tclqv margin n sink) k) h = refl
-first-acts given buffer (ask (Transfer.QuadWrite c payload) k) h = refl
+first-acts given buffer (ask (Transfer.Framed c Body.None) k) h = refl
+first-acts given buffer (ask (Transfer.Framed c (Body.Read n sink)) k) h = refl
+first-acts given buffer (ask (Transfer.Framed c (Body.Write payload)) k) h = refl
+first-acts given buffer (ask (Transfer.Framed c (Body.QuadRead tclqv margin n sink)) k) h = refl
+first-acts given buffer (ask (Transfer.Framed c (Body.QuadWrite payload)) k) h = refl
 
 -- ---- lent bytes that fit
 

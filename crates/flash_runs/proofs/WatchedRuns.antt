@@ -10,6 +10,7 @@ use Rattle.frames.specs.Frame.{firstOf, actionAt, actionOf, frameAt, advancedAt
 use Rattle.frames.specs.ShownBytes.{startShown, shownAt}
 use Rattle.frames.proofs.Sent.{shown-bytes}
 use Rattle.qspi.specs.declared.bus.Reply.{Reply}
+use Rattle.qspi.specs.declared.transfer.Body.{Body}
 use Rattle.qspi.specs.declared.transfer.Transfer.{Transfer}
 use Rattle.frames.specs.declared.frame.Stage.{Stage}
 use Rattle.frames.specs.declared.frame.Outcome.{Outcome}
@@ -56,45 +57,45 @@ module _ {Z : Type 0} (w : Watcher Z) (Q : Z → Type 0) where
     from-start : (t : Transfer) → BehindStart w Q z t later → Advances z Stage.Start t fresh later Reply.Done bytes given
     from-start Transfer.Raise h = h
     from-start (Transfer.Pause us) h = h
-    from-start (Transfer.Send c) h = (h .0, (refl, h .1))
-    from-start (Transfer.Read c n sink) h = (h .0, (refl, h .1))
-    from-start (Transfer.Write c payload) h = (h .0, (refl, h .1))
-    from-start (Transfer.QuadRead c tclqv margin n sink) h = (h .0, (refl, h .1))
-    from-start (Transfer.QuadWrite c payload) h = (h given .0, (refl, h given .1))
+    from-start (Transfer.Framed c Body.None) h = (h .0, (refl, h .1))
+    from-start (Transfer.Framed c (Body.Read n sink)) h = (h .0, (refl, h .1))
+    from-start (Transfer.Framed c (Body.Write payload)) h = (h .0, (refl, h .1))
+    from-start (Transfer.Framed c (Body.QuadRead tclqv margin n sink)) h = (h .0, (refl, h .1))
+    from-start (Transfer.Framed c (Body.QuadWrite payload)) h = (h given .0, (refl, h given .1))
 
     from-command : (t : Transfer) → BehindCommand w Q z t later → (r : Reply) → fitsAt (awaitsOf (actionAt Stage.Command t)) r (length bytes) ≡ true →
         Advances z Stage.Command t fresh later r bytes given
     from-command Transfer.Raise h r fit = absurd h
     from-command (Transfer.Pause us) h r fit = absurd h
-    from-command (Transfer.Send c) h Reply.Done fit = h
-    from-command (Transfer.Send c) h Reply.Data fit = absurd (false≢true fit)
-    from-command (Transfer.Send c) h (Reply.Error code) fit = (h .0, (h .1 .0, tt))
-    from-command (Transfer.Read c n sink) h Reply.Done fit = (h .1 .0, (refl, h .1 .1))
-    from-command (Transfer.Read c n sink) h Reply.Data fit = absurd (false≢true fit)
-    from-command (Transfer.Read c n sink) h (Reply.Error code) fit = (h .0 .0, (h .0 .1, tt))
-    from-command (Transfer.Write c payload) h Reply.Done fit = (h .1 given .0, (refl, h .1 given .1))
-    from-command (Transfer.Write c payload) h Reply.Data fit = absurd (false≢true fit)
-    from-command (Transfer.Write c payload) h (Reply.Error code) fit = (h .0 .0, (h .0 .1, tt))
-    from-command (Transfer.QuadRead c tclqv margin n sink) h r fit = absurd h
-    from-command (Transfer.QuadWrite c payload) h r fit = absurd h
+    from-command (Transfer.Framed c Body.None) h Reply.Done fit = h
+    from-command (Transfer.Framed c Body.None) h Reply.Data fit = absurd (false≢true fit)
+    from-command (Transfer.Framed c Body.None) h (Reply.Error code) fit = (h .0, (h .1 .0, tt))
+    from-command (Transfer.Framed c (Body.Read n sink)) h Reply.Done fit = (h .1 .0, (refl, h .1 .1))
+    from-command (Transfer.Framed c (Body.Read n sink)) h Reply.Data fit = absurd (false≢true fit)
+    from-command (Transfer.Framed c (Body.Read n sink)) h (Reply.Error code) fit = (h .0 .0, (h .0 .1, tt))
+    from-command (Transfer.Framed c (Body.Write payload)) h Reply.Done fit = (h .1 given .0, (refl, h .1 given .1))
+    from-command (Transfer.Framed c (Body.Write payload)) h Reply.Data fit = absurd (false≢true fit)
+    from-command (Transfer.Framed c (Body.Write payload)) h (Reply.Error code) fit = (h .0 .0, (h .0 .1, tt))
+    from-command (Transfer.Framed c (Body.QuadRead tclqv margin n sink)) h r fit = absurd h
+    from-command (Transfer.Framed c (Body.QuadWrite payload)) h r fit = absurd h
 
     from-payload : (t : Transfer) → BehindPayload w Q z t later → (r : Reply) → fitsAt (awaitsOf (actionAt Stage.Payload t)) r (length bytes) ≡ true →
         Advances z Stage.Payload t fresh later r bytes given
     from-payload Transfer.Raise h r fit = absurd h
     from-payload (Transfer.Pause us) h r fit = absurd h
-    from-payload (Transfer.Send c) h r fit = absurd h
-    from-payload (Transfer.Read c n sink) h Reply.Done fit = absurd (false≢true fit)
-    from-payload (Transfer.Read c n sink) h Reply.Data fit = h .1 bytes given (eqb-true (length bytes) n fit)
-    from-payload (Transfer.Read c n sink) h (Reply.Error code) fit = (h .0 .0, (h .0 .1, tt))
-    from-payload (Transfer.Write c payload) h Reply.Done fit = h
-    from-payload (Transfer.Write c payload) h Reply.Data fit = absurd (false≢true fit)
-    from-payload (Transfer.Write c payload) h (Reply.Error code) fit = (h .0, (h .1 .0, tt))
-    from-payload (Transfer.QuadRead c tclqv margin n sink) h Reply.Done fit = absurd (false≢true fit)
-    from-payload (Transfer.QuadRead c tclqv margin n sink) h Reply.Data fit = h .1 bytes given (eqb-true (length bytes) n fit)
-    from-payload (Transfer.QuadRead c tclqv margin n sink) h (Reply.Error code) fit = (h .0 .0, (h .0 .1, tt))
-    from-payload (Transfer.QuadWrite c payload) h Reply.Done fit = h
-    from-payload (Transfer.QuadWrite c payload) h Reply.Data fit = absurd (false≢true fit)
-    from-payload (Transfer.QuadWrite c payload) h (Reply.Error code) fit = (h .0, (h .1 .0, tt))
+    from-payload (Transfer.Framed c Body.None) h r fit = absurd h
+    from-payload (Transfer.Framed c (Body.Read n sink)) h Reply.Done fit = absurd (false≢true fit)
+    from-payload (Transfer.Framed c (Body.Read n sink)) h Reply.Data fit = h .1 bytes given (eqb-true (length bytes) n fit)
+    from-payload (Transfer.Framed c (Body.Read n sink)) h (Reply.Error code) fit = (h .0 .0, (h .0 .1, tt))
+    from-payload (Transfer.Framed c (Body.Write payload)) h Reply.Done fit = h
+    from-payload (Transfer.Framed c (Body.Write payload)) h Reply.Data fit = absurd (false≢true fit)
+    from-payload (Transfer.Framed c (Body.Write payload)) h (Reply.Error code) fit = (h .0, (h .1 .0, tt))
+    from-payload (Transfer.Framed c (Body.QuadRead tclqv margin n sink)) h Reply.Done fit = absurd (false≢true fit)
+    from-payload (Transfer.Framed c (Body.QuadRead tclqv margin n sink)) h Reply.Data fit = h .1 bytes given (eqb-true (length bytes) n fit)
+    from-payload (Transfer.Framed c (Body.QuadRead tclqv margin n sink)) h (Reply.Error code) fit = (h .0 .0, (h .0 .1, tt))
+    from-payload (Transfer.Framed c (Body.QuadWrite payload)) h Reply.Done fit = h
+    from-payload (Transfer.Framed c (Body.QuadWrite payload)) h Reply.Data fit = absurd (false≢true fit)
+    from-payload (Transfer.Framed c (Body.QuadWrite payload)) h (Reply.Error code) fit = (h .0, (h .1 .0, tt))
 
     -- a reply that fits brings a frame on
     advances : (stage : Stage) (t : Transfer) (o : Outcome) → Behind z stage t o later → (r : Reply) → fitsAt (awaitsOf (actionAt stage t)) r (length bytes) ≡ true →

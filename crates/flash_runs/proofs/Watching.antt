@@ -10,6 +10,7 @@ use Rattle.frames.specs.Frame.{valueOf}
 use Rattle.frames.specs.ShownBytes.{payloadBytes, startShown}
 use Rattle.qspi.specs.declared.command.Command.{Command}
 use Rattle.qspi.specs.declared.transfer.Sink.{Sink}
+use Rattle.qspi.specs.declared.transfer.Body.{Body}
 use Rattle.qspi.specs.declared.transfer.Transfer.{Transfer}
 use Rattle.frames.specs.declared.frame.Outcome.{Outcome}
 use Rattle.spi_flash.specs.declared.error.FlashError.{FlashError}
@@ -51,21 +52,21 @@ module _ {Z : Type 0} (w : Watcher Z) (Q : Z → Type 0) where
   abbrev pub BehindPayload : Z → Transfer → (Z → ℕ → Type 0) → Type 0
   BehindPayload z Transfer.Raise later = ⊥
   BehindPayload z (Transfer.Pause us) later = ⊥
-  BehindPayload z (Transfer.Send c) later = ⊥
-  BehindPayload z (Transfer.Read c n sink) later = BehindRead z n sink later
-  BehindPayload z (Transfer.Write c payload) later = Closes (hush z) (Outcome.Value 0) later
-  BehindPayload z (Transfer.QuadRead c tclqv margin n sink) later = BehindRead z n sink later
-  BehindPayload z (Transfer.QuadWrite c payload) later = Closes (hush z) (Outcome.Value 0) later
+  BehindPayload z (Transfer.Framed c Body.None) later = ⊥
+  BehindPayload z (Transfer.Framed c (Body.Read n sink)) later = BehindRead z n sink later
+  BehindPayload z (Transfer.Framed c (Body.Write payload)) later = Closes (hush z) (Outcome.Value 0) later
+  BehindPayload z (Transfer.Framed c (Body.QuadRead tclqv margin n sink)) later = BehindRead z n sink later
+  BehindPayload z (Transfer.Framed c (Body.QuadWrite payload)) later = Closes (hush z) (Outcome.Value 0) later
 
   abbrev pub BehindCommand : Z → Transfer → (Z → ℕ → Type 0) → Type 0
   BehindCommand z Transfer.Raise later = ⊥
   BehindCommand z (Transfer.Pause us) later = ⊥
-  BehindCommand z (Transfer.Send c) later = Closes (hush z) (Outcome.Value 0) later
-  BehindCommand z (Transfer.Read c n sink) later = Breaks (hush z) × Gives (read n) (hush z) (λ y. BehindRead y n sink later)
-  BehindCommand z (Transfer.Write c payload) later =
-      Breaks (hush z) × ((given : List ℕ) → Gives (write (payloadBytes payload given)) (hush z) (λ y. BehindPayload y (Transfer.Write c payload) later))
-  BehindCommand z (Transfer.QuadRead c tclqv margin n sink) later = ⊥
-  BehindCommand z (Transfer.QuadWrite c payload) later = ⊥
+  BehindCommand z (Transfer.Framed c Body.None) later = Closes (hush z) (Outcome.Value 0) later
+  BehindCommand z (Transfer.Framed c (Body.Read n sink)) later = Breaks (hush z) × Gives (read n) (hush z) (λ y. BehindRead y n sink later)
+  BehindCommand z (Transfer.Framed c (Body.Write payload)) later =
+      Breaks (hush z) × ((given : List ℕ) → Gives (write (payloadBytes payload given)) (hush z) (λ y. BehindPayload y (Transfer.Framed c (Body.Write payload)) later))
+  BehindCommand z (Transfer.Framed c (Body.QuadRead tclqv margin n sink)) later = ⊥
+  BehindCommand z (Transfer.Framed c (Body.QuadWrite payload)) later = ⊥
 
   -- the command is given out
   abbrev pub Commands : Z → Command → Transfer → (Z → ℕ → Type 0) → Type 0
@@ -74,13 +75,13 @@ module _ {Z : Type 0} (w : Watcher Z) (Q : Z → Type 0) where
   abbrev pub BehindStart : Z → Transfer → (Z → ℕ → Type 0) → Type 0
   BehindStart z Transfer.Raise later = Q (hush z) × later (hush z) 0
   BehindStart z (Transfer.Pause us) later = Q (hush z) × later (hush z) 0
-  BehindStart z (Transfer.Send c) later = Commands (hush z) c (Transfer.Send c) later
-  BehindStart z (Transfer.Read c n sink) later = Commands (hush z) c (Transfer.Read c n sink) later
-  BehindStart z (Transfer.Write c payload) later = Commands (hush z) c (Transfer.Write c payload) later
-  BehindStart z (Transfer.QuadRead c tclqv margin n sink) later =
+  BehindStart z (Transfer.Framed c Body.None) later = Commands (hush z) c (Transfer.Framed c Body.None) later
+  BehindStart z (Transfer.Framed c (Body.Read n sink)) later = Commands (hush z) c (Transfer.Framed c (Body.Read n sink)) later
+  BehindStart z (Transfer.Framed c (Body.Write payload)) later = Commands (hush z) c (Transfer.Framed c (Body.Write payload)) later
+  BehindStart z (Transfer.Framed c (Body.QuadRead tclqv margin n sink)) later =
       Gives (quadRead (commandBytes c) tclqv margin n) (hush z) (λ y. BehindRead y n sink later)
-  BehindStart z (Transfer.QuadWrite c payload) later =
-      (given : List ℕ) → Gives (quadWrite (commandBytes c) (payloadBytes payload given)) (hush z) (λ y. BehindPayload y (Transfer.QuadWrite c payload) later)
+  BehindStart z (Transfer.Framed c (Body.QuadWrite payload)) later =
+      (given : List ℕ) → Gives (quadWrite (commandBytes c) (payloadBytes payload given)) (hush z) (λ y. BehindPayload y (Transfer.Framed c (Body.QuadWrite payload)) later)
 
   abbrev pub Seen : Z → Transfer → (Z → ℕ → Type 0) → Type 0
   Seen z t later = Gives (startShown t) z (λ y. BehindStart y t later)
@@ -103,29 +104,29 @@ module _ {Z : Type 0} (w : Watcher Z) (Q : Z → Type 0) where
     payload-mono : (z : Z) (t : Transfer) → BehindPayload z t later → BehindPayload z t next
     payload-mono z Transfer.Raise h = h
     payload-mono z (Transfer.Pause us) h = h
-    payload-mono z (Transfer.Send c) h = h
-    payload-mono z (Transfer.Read c n sink) h = read-mono z n sink h
-    payload-mono z (Transfer.Write c payload) h = (h .0, (h .1 .0, f _ _ (h .1 .1)))
-    payload-mono z (Transfer.QuadRead c tclqv margin n sink) h = read-mono z n sink h
-    payload-mono z (Transfer.QuadWrite c payload) h = (h .0, (h .1 .0, f _ _ (h .1 .1)))
+    payload-mono z (Transfer.Framed c Body.None) h = h
+    payload-mono z (Transfer.Framed c (Body.Read n sink)) h = read-mono z n sink h
+    payload-mono z (Transfer.Framed c (Body.Write payload)) h = (h .0, (h .1 .0, f _ _ (h .1 .1)))
+    payload-mono z (Transfer.Framed c (Body.QuadRead tclqv margin n sink)) h = read-mono z n sink h
+    payload-mono z (Transfer.Framed c (Body.QuadWrite payload)) h = (h .0, (h .1 .0, f _ _ (h .1 .1)))
 
     command-mono : (z : Z) (t : Transfer) → BehindCommand z t later → BehindCommand z t next
     command-mono z Transfer.Raise h = h
     command-mono z (Transfer.Pause us) h = h
-    command-mono z (Transfer.Send c) h = (h .0, (h .1 .0, f _ _ (h .1 .1)))
-    command-mono z (Transfer.Read c n sink) h = (h .0, (h .1 .0, read-mono _ n sink (h .1 .1)))
-    command-mono z (Transfer.Write c payload) h = (h .0, (λ given. (h .1 given .0, payload-mono _ (Transfer.Write c payload) (h .1 given .1))))
-    command-mono z (Transfer.QuadRead c tclqv margin n sink) h = h
-    command-mono z (Transfer.QuadWrite c payload) h = h
+    command-mono z (Transfer.Framed c Body.None) h = (h .0, (h .1 .0, f _ _ (h .1 .1)))
+    command-mono z (Transfer.Framed c (Body.Read n sink)) h = (h .0, (h .1 .0, read-mono _ n sink (h .1 .1)))
+    command-mono z (Transfer.Framed c (Body.Write payload)) h = (h .0, (λ given. (h .1 given .0, payload-mono _ (Transfer.Framed c (Body.Write payload)) (h .1 given .1))))
+    command-mono z (Transfer.Framed c (Body.QuadRead tclqv margin n sink)) h = h
+    command-mono z (Transfer.Framed c (Body.QuadWrite payload)) h = h
 
     start-mono : (z : Z) (t : Transfer) → BehindStart z t later → BehindStart z t next
     start-mono z Transfer.Raise h = (h .0, f _ _ (h .1))
     start-mono z (Transfer.Pause us) h = (h .0, f _ _ (h .1))
-    start-mono z (Transfer.Send c) h = (h .0, command-mono _ (Transfer.Send c) (h .1))
-    start-mono z (Transfer.Read c n sink) h = (h .0, command-mono _ (Transfer.Read c n sink) (h .1))
-    start-mono z (Transfer.Write c payload) h = (h .0, command-mono _ (Transfer.Write c payload) (h .1))
-    start-mono z (Transfer.QuadRead c tclqv margin n sink) h = (h .0, read-mono _ n sink (h .1))
-    start-mono z (Transfer.QuadWrite c payload) h = λ given. (h given .0, payload-mono _ (Transfer.QuadWrite c payload) (h given .1))
+    start-mono z (Transfer.Framed c Body.None) h = (h .0, command-mono _ (Transfer.Framed c Body.None) (h .1))
+    start-mono z (Transfer.Framed c (Body.Read n sink)) h = (h .0, command-mono _ (Transfer.Framed c (Body.Read n sink)) (h .1))
+    start-mono z (Transfer.Framed c (Body.Write payload)) h = (h .0, command-mono _ (Transfer.Framed c (Body.Write payload)) (h .1))
+    start-mono z (Transfer.Framed c (Body.QuadRead tclqv margin n sink)) h = (h .0, read-mono _ n sink (h .1))
+    start-mono z (Transfer.Framed c (Body.QuadWrite payload)) h = λ given. (h given .0, payload-mono _ (Transfer.Framed c (Body.QuadWrite payload)) (h given .1))
 
   sees-bind : {A B : Type 0} (E : A → Z → Type 0) (F : B → Z → Type 0) (z : Z) (p : Prog A) (k : A → Prog B) → Sees E z p →
       ((a : A) (y : Z) → E a y → Shows F y (k a)) → Sees F z (p >>= k)

@@ -18,6 +18,7 @@ use Rattle.qspi.specs.Shown.{write, shownOf}
 use Rattle.frames.specs.ShownBytes.{payloadBytes, shownAt, within, commandPlace, payloadPlace, touchedAt, ShownBytes, ScratchKept}
 use Rattle.qspi.specs.declared.command.Command.{Command}
 use Rattle.qspi.specs.declared.transfer.Payload.{Payload}
+use Rattle.qspi.specs.declared.transfer.Body.{Body}
 use Rattle.qspi.specs.declared.transfer.Transfer.{Transfer}
 use Rattle.frames.specs.declared.frame.Stage.{Stage}
 use Rattle.qspi.proofs.Filler.{filler-most}
@@ -185,25 +186,21 @@ shown-bytes = record { shows = λ f scratch given h. at (f .stage) (f .transfer)
     at : (stage : Stage) (t : Transfer) (s given : List ℕ) → scratchLeast ≤ length s → shownOf (actionAt stage t) (scratchAt stage t s) given ≡ shownAt stage t given
     at Stage.Start Transfer.Raise s given h = refl
     at Stage.Start (Transfer.Pause us) s given h = refl
-    at Stage.Start (Transfer.Send c) s given h = refl
-    at Stage.Start (Transfer.Read c n sink) s given h = refl
-    at Stage.Start (Transfer.Write c p) s given h = refl
-    at Stage.Start (Transfer.QuadRead c tclqv margin n sink) s given h = refl
-    at Stage.Start (Transfer.QuadWrite c p) s given h = refl
+    at Stage.Start (Transfer.Framed c body) s given h = refl
     at Stage.Command Transfer.Raise s given h = refl
     at Stage.Command (Transfer.Pause us) s given h = refl
-    at Stage.Command (Transfer.Send c) s given h = ap write (command-sent c s h)
-    at Stage.Command (Transfer.Read c n sink) s given h = ap write (command-sent c s h)
-    at Stage.Command (Transfer.Write c p) s given h = ap write (command-sent c s h)
-    at Stage.Command (Transfer.QuadRead c tclqv margin n sink) s given h = refl
-    at Stage.Command (Transfer.QuadWrite c p) s given h = refl
+    at Stage.Command (Transfer.Framed c Body.None) s given h = ap write (command-sent c s h)
+    at Stage.Command (Transfer.Framed c (Body.Read n sink)) s given h = ap write (command-sent c s h)
+    at Stage.Command (Transfer.Framed c (Body.Write p)) s given h = ap write (command-sent c s h)
+    at Stage.Command (Transfer.Framed c (Body.QuadRead tclqv margin n sink)) s given h = refl
+    at Stage.Command (Transfer.Framed c (Body.QuadWrite p)) s given h = refl
     at Stage.Payload Transfer.Raise s given h = refl
     at Stage.Payload (Transfer.Pause us) s given h = refl
-    at Stage.Payload (Transfer.Send c) s given h = refl
-    at Stage.Payload (Transfer.Read c n sink) s given h = refl
-    at Stage.Payload (Transfer.Write c p) s given h = ap write (payload-sent p s given h)
-    at Stage.Payload (Transfer.QuadRead c tclqv margin n sink) s given h = rw (command-sent c s h)
-    at Stage.Payload (Transfer.QuadWrite c p) s given h =
+    at Stage.Payload (Transfer.Framed c Body.None) s given h = refl
+    at Stage.Payload (Transfer.Framed c (Body.Read n sink)) s given h = refl
+    at Stage.Payload (Transfer.Framed c (Body.Write p)) s given h = ap write (payload-sent p s given h)
+    at Stage.Payload (Transfer.Framed c (Body.QuadRead tclqv margin n sink)) s given h = rw (command-sent c s h)
+    at Stage.Payload (Transfer.Framed c (Body.QuadWrite p)) s given h =
         cc (command-behind c p s h, payload-sent p (withCommand c s) given (omega (arith, command-size c s)))
     at Stage.High t s given h = refl
 
@@ -215,18 +212,18 @@ scratch-kept = record { size = λ f s. sized (f .stage) (f .transfer) s; kept = 
     sized Stage.Start t s = refl
     sized Stage.Command Transfer.Raise s = refl
     sized Stage.Command (Transfer.Pause us) s = refl
-    sized Stage.Command (Transfer.Send c) s = command-size c s
-    sized Stage.Command (Transfer.Read c n sink) s = command-size c s
-    sized Stage.Command (Transfer.Write c p) s = command-size c s
-    sized Stage.Command (Transfer.QuadRead c tclqv margin n sink) s = refl
-    sized Stage.Command (Transfer.QuadWrite c p) s = refl
+    sized Stage.Command (Transfer.Framed c Body.None) s = command-size c s
+    sized Stage.Command (Transfer.Framed c (Body.Read n sink)) s = command-size c s
+    sized Stage.Command (Transfer.Framed c (Body.Write p)) s = command-size c s
+    sized Stage.Command (Transfer.Framed c (Body.QuadRead tclqv margin n sink)) s = refl
+    sized Stage.Command (Transfer.Framed c (Body.QuadWrite p)) s = refl
     sized Stage.Payload Transfer.Raise s = refl
     sized Stage.Payload (Transfer.Pause us) s = refl
-    sized Stage.Payload (Transfer.Send c) s = refl
-    sized Stage.Payload (Transfer.Read c n sink) s = refl
-    sized Stage.Payload (Transfer.Write c p) s = payload-size p s
-    sized Stage.Payload (Transfer.QuadRead c tclqv margin n sink) s = command-size c s
-    sized Stage.Payload (Transfer.QuadWrite c p) s = payload-size p (withCommand c s) ∙ command-size c s
+    sized Stage.Payload (Transfer.Framed c Body.None) s = refl
+    sized Stage.Payload (Transfer.Framed c (Body.Read n sink)) s = refl
+    sized Stage.Payload (Transfer.Framed c (Body.Write p)) s = payload-size p s
+    sized Stage.Payload (Transfer.Framed c (Body.QuadRead tclqv margin n sink)) s = command-size c s
+    sized Stage.Payload (Transfer.Framed c (Body.QuadWrite p)) s = payload-size p (withCommand c s) ∙ command-size c s
     sized Stage.High t s = refl
 
     both : (a b : Bool) → (a || b) ≡ false → (a ≡ false) × (b ≡ false)
@@ -237,18 +234,18 @@ scratch-kept = record { size = λ f s. sized (f .stage) (f .transfer) s; kept = 
     same Stage.Start t s i h = refl
     same Stage.Command Transfer.Raise s i h = refl
     same Stage.Command (Transfer.Pause us) s i h = refl
-    same Stage.Command (Transfer.Send c) s i h = command-kept c s i h
-    same Stage.Command (Transfer.Read c n sink) s i h = command-kept c s i h
-    same Stage.Command (Transfer.Write c p) s i h = command-kept c s i h
-    same Stage.Command (Transfer.QuadRead c tclqv margin n sink) s i h = refl
-    same Stage.Command (Transfer.QuadWrite c p) s i h = refl
+    same Stage.Command (Transfer.Framed c Body.None) s i h = command-kept c s i h
+    same Stage.Command (Transfer.Framed c (Body.Read n sink)) s i h = command-kept c s i h
+    same Stage.Command (Transfer.Framed c (Body.Write p)) s i h = command-kept c s i h
+    same Stage.Command (Transfer.Framed c (Body.QuadRead tclqv margin n sink)) s i h = refl
+    same Stage.Command (Transfer.Framed c (Body.QuadWrite p)) s i h = refl
     same Stage.Payload Transfer.Raise s i h = refl
     same Stage.Payload (Transfer.Pause us) s i h = refl
-    same Stage.Payload (Transfer.Send c) s i h = refl
-    same Stage.Payload (Transfer.Read c n sink) s i h = refl
-    same Stage.Payload (Transfer.Write c p) s i h = payload-kept p s i h
-    same Stage.Payload (Transfer.QuadRead c tclqv margin n sink) s i h = command-kept c s i h
-    same Stage.Payload (Transfer.QuadWrite c p) s i h =
+    same Stage.Payload (Transfer.Framed c Body.None) s i h = refl
+    same Stage.Payload (Transfer.Framed c (Body.Read n sink)) s i h = refl
+    same Stage.Payload (Transfer.Framed c (Body.Write p)) s i h = payload-kept p s i h
+    same Stage.Payload (Transfer.Framed c (Body.QuadRead tclqv margin n sink)) s i h = command-kept c s i h
+    same Stage.Payload (Transfer.Framed c (Body.QuadWrite p)) s i h =
         let w = both (commandPlace c i) (payloadPlace p i) h in
         payload-kept p (withCommand c s) i (w .1) ∙ command-kept c s i (w .0)
     same Stage.High t s i h = refl

@@ -1,5 +1,6 @@
 -- One transfer, action by action (document 01, "Actions and replies"; the Rust's `command` and `command_then_read`).
 use Prim.Native.Nat.{ℕ}
+use mathlib.Core.Bool.{Bool, true, false}
 use mathlib.Core.List.{List}
 use lib.ListN.{length, drop}
 use Rattle.qspi.specs.Choice.{pick}
@@ -12,6 +13,7 @@ use Rattle.qspi.specs.declared.bus.Reply.{Reply}
 use Rattle.qspi.specs.declared.command.Command.{Command}
 use Rattle.qspi.specs.declared.transfer.Payload.{Payload}
 use Rattle.qspi.specs.declared.transfer.Sink.{Sink}
+use Rattle.qspi.specs.declared.transfer.Body.{Body}
 use Rattle.qspi.specs.declared.transfer.Transfer.{Transfer}
 use Rattle.frames.specs.declared.frame.Stage.{Stage}
 use Rattle.frames.specs.declared.frame.Outcome.{Outcome}
@@ -42,32 +44,36 @@ payloadPart Payload.Marker = Part.Scratch 261 1
 abbrev pub commandPart : Command → Part
 commandPart command = Part.Scratch 0 (length (commandBytes command))
 
+-- a quad call has the command with its data
+abbrev pub isQuad : Body → Bool
+isQuad Body.None = false
+isQuad (Body.Read n sink) = false
+isQuad (Body.Write payload) = false
+isQuad (Body.QuadRead tclqv margin n sink) = true
+isQuad (Body.QuadWrite payload) = true
+
 abbrev pub startAction : Transfer → Action
 startAction Transfer.Raise = Action.SelectHigh
 startAction (Transfer.Pause us) = Action.Delay us
-startAction (Transfer.Send c) = Action.SelectLow
-startAction (Transfer.Read c n sink) = Action.SelectLow
-startAction (Transfer.Write c payload) = Action.SelectLow
-startAction (Transfer.QuadRead c tclqv margin n sink) = Action.SelectLow
-startAction (Transfer.QuadWrite c payload) = Action.SelectLow
+startAction (Transfer.Framed c body) = Action.SelectLow
 
 abbrev pub commandAction : Transfer → Action
 commandAction Transfer.Raise = Action.SelectHigh
 commandAction (Transfer.Pause us) = Action.SelectHigh
-commandAction (Transfer.Send c) = Action.Write (commandPart c)
-commandAction (Transfer.Read c n sink) = Action.Write (commandPart c)
-commandAction (Transfer.Write c payload) = Action.Write (commandPart c)
-commandAction (Transfer.QuadRead c tclqv margin n sink) = Action.SelectHigh
-commandAction (Transfer.QuadWrite c payload) = Action.SelectHigh
+commandAction (Transfer.Framed c body) = pick (isQuad body) Action.SelectHigh (Action.Write (commandPart c))
+
+-- what follows the command, if anything does
+abbrev pub bodyAction : Command → Body → Action
+bodyAction c Body.None = Action.SelectHigh
+bodyAction c (Body.Read n sink) = Action.Read n
+bodyAction c (Body.Write payload) = Action.Write (payloadPart payload)
+bodyAction c (Body.QuadRead tclqv margin n sink) = Action.QuadRead (commandPart c) tclqv margin n
+bodyAction c (Body.QuadWrite payload) = Action.QuadWrite (commandPart c) (payloadPart payload)
 
 abbrev pub payloadAction : Transfer → Action
 payloadAction Transfer.Raise = Action.SelectHigh
 payloadAction (Transfer.Pause us) = Action.SelectHigh
-payloadAction (Transfer.Send c) = Action.SelectHigh
-payloadAction (Transfer.Read c n sink) = Action.Read n
-payloadAction (Transfer.Write c payload) = Action.Write (payloadPart payload)
-payloadAction (Transfer.QuadRead c tclqv margin n sink) = Action.QuadRead (commandPart c) tclqv margin n
-payloadAction (Transfer.QuadWrite c payload) = Action.QuadWrite (commandPart c) (payloadPart payload)
+payloadAction (Transfer.Framed c body) = bodyAction c body
 
 abbrev pub actionAt : Stage → Transfer → Action
 actionAt Stage.Start t = startAction t
@@ -89,20 +95,19 @@ withPayload Payload.Marker s = withMarker s
 abbrev pub withCommandOf : Transfer → List ℕ → List ℕ
 withCommandOf Transfer.Raise s = s
 withCommandOf (Transfer.Pause us) s = s
-withCommandOf (Transfer.Send c) s = withCommand c s
-withCommandOf (Transfer.Read c n sink) s = withCommand c s
-withCommandOf (Transfer.Write c payload) s = withCommand c s
-withCommandOf (Transfer.QuadRead c tclqv margin n sink) s = s
-withCommandOf (Transfer.QuadWrite c payload) s = s
+withCommandOf (Transfer.Framed c body) s = pick (isQuad body) s (withCommand c s)
+
+abbrev pub withBody : Command → Body → List ℕ → List ℕ
+withBody c Body.None s = s
+withBody c (Body.Read n sink) s = s
+withBody c (Body.Write payload) s = withPayload payload s
+withBody c (Body.QuadRead tclqv margin n sink) s = withCommand c s
+withBody c (Body.QuadWrite payload) s = withPayload payload (withCommand c s)
 
 abbrev pub withPayloadOf : Transfer → List ℕ → List ℕ
 withPayloadOf Transfer.Raise s = s
 withPayloadOf (Transfer.Pause us) s = s
-withPayloadOf (Transfer.Send c) s = s
-withPayloadOf (Transfer.Read c n sink) s = s
-withPayloadOf (Transfer.Write c payload) s = withPayload payload s
-withPayloadOf (Transfer.QuadRead c tclqv margin n sink) s = withCommand c s
-withPayloadOf (Transfer.QuadWrite c payload) s = withPayload payload (withCommand c s)
+withPayloadOf (Transfer.Framed c body) s = withBody c body s
 
 abbrev pub scratchAt : Stage → Transfer → List ℕ → List ℕ
 scratchAt Stage.Start t s = s
@@ -118,20 +123,20 @@ givenScratch f s = scratchAt (f .stage) (f .transfer) s
 abbrev pub afterStart : Transfer → Following
 afterStart Transfer.Raise = Following.Over
 afterStart (Transfer.Pause us) = Following.Over
-afterStart (Transfer.Send c) = Following.To Stage.Command
-afterStart (Transfer.Read c n sink) = Following.To Stage.Command
-afterStart (Transfer.Write c payload) = Following.To Stage.Command
-afterStart (Transfer.QuadRead c tclqv margin n sink) = Following.To Stage.Payload
-afterStart (Transfer.QuadWrite c payload) = Following.To Stage.Payload
+afterStart (Transfer.Framed c body) = Following.To (pick (isQuad body) Stage.Payload Stage.Command)
+
+-- a command of its own is followed by its body, where it has one
+abbrev pub bodyStage : Body → Stage
+bodyStage Body.None = Stage.High
+bodyStage (Body.Read n sink) = Stage.Payload
+bodyStage (Body.Write payload) = Stage.Payload
+bodyStage (Body.QuadRead tclqv margin n sink) = Stage.High
+bodyStage (Body.QuadWrite payload) = Stage.High
 
 abbrev pub afterCommand : Transfer → Following
 afterCommand Transfer.Raise = Following.To Stage.High
 afterCommand (Transfer.Pause us) = Following.To Stage.High
-afterCommand (Transfer.Send c) = Following.To Stage.High
-afterCommand (Transfer.Read c n sink) = Following.To Stage.Payload
-afterCommand (Transfer.Write c payload) = Following.To Stage.Payload
-afterCommand (Transfer.QuadRead c tclqv margin n sink) = Following.To Stage.High
-afterCommand (Transfer.QuadWrite c payload) = Following.To Stage.High
+afterCommand (Transfer.Framed c body) = Following.To (bodyStage body)
 
 abbrev pub nextStage : Transfer → Stage → Following
 nextStage t Stage.Start = afterStart t
@@ -139,14 +144,17 @@ nextStage t Stage.Command = afterCommand t
 nextStage t Stage.Payload = Following.To Stage.High
 nextStage t Stage.High = Following.Over
 
+abbrev pub bodySink : Body → Sink
+bodySink Body.None = Sink.Number
+bodySink (Body.Read n sink) = sink
+bodySink (Body.Write payload) = Sink.Number
+bodySink (Body.QuadRead tclqv margin n sink) = sink
+bodySink (Body.QuadWrite payload) = Sink.Number
+
 abbrev pub sinkOf : Transfer → Sink
 sinkOf Transfer.Raise = Sink.Number
 sinkOf (Transfer.Pause us) = Sink.Number
-sinkOf (Transfer.Send c) = Sink.Number
-sinkOf (Transfer.Read c n sink) = sink
-sinkOf (Transfer.Write c payload) = Sink.Number
-sinkOf (Transfer.QuadRead c tclqv margin n sink) = sink
-sinkOf (Transfer.QuadWrite c payload) = Sink.Number
+sinkOf (Transfer.Framed c body) = bodySink body
 
 -- the number that a data reply comes to: registers and ids, nothing for the buffer, 1 for equal bytes
 abbrev pub valueOf : Sink → List ℕ → List ℕ → ℕ

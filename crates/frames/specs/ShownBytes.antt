@@ -6,12 +6,14 @@ use mathlib.Core.Path.{_≡_}
 use mathlib.Core.List.{List, [], _∷_}
 use lib.ListN.{length, getD, replicate}
 use lib.Dec.{leb, ltb}
+use Rattle.qspi.specs.Choice.{pick}
 use Rattle.qspi.specs.Bytes.{partOf, fillerLength}
 use Rattle.qspi.specs.Command.{commandBytes, scratchLeast}
-use Rattle.frames.specs.Frame.{actionOf, givenScratch}
+use Rattle.frames.specs.Frame.{isQuad, actionOf, givenScratch}
 use Rattle.qspi.specs.Shown.{Shown, low, high, write, read, quadRead, quadWrite, delay, shownOf}
 use Rattle.qspi.specs.declared.command.Command.{Command}
 use Rattle.qspi.specs.declared.transfer.Payload.{Payload}
+use Rattle.qspi.specs.declared.transfer.Body.{Body}
 use Rattle.qspi.specs.declared.transfer.Transfer.{Transfer}
 use Rattle.frames.specs.declared.frame.Stage.{Stage}
 use Rattle.frames.specs.declared.frame.Frame.{Frame}
@@ -28,31 +30,26 @@ payloadBytes Payload.Marker given = 0x00 ∷ []
 abbrev pub startShown : Transfer → Shown
 startShown Transfer.Raise = high
 startShown (Transfer.Pause us) = delay us
-startShown (Transfer.Send c) = low
-startShown (Transfer.Read c n sink) = low
-startShown (Transfer.Write c payload) = low
-startShown (Transfer.QuadRead c tclqv margin n sink) = low
-startShown (Transfer.QuadWrite c payload) = low
+startShown (Transfer.Framed c body) = low
 
 -- the command in a write of its own; the quad calls have it with their data
 abbrev pub commandShown : Transfer → Shown
 commandShown Transfer.Raise = high
 commandShown (Transfer.Pause us) = high
-commandShown (Transfer.Send c) = write (commandBytes c)
-commandShown (Transfer.Read c n sink) = write (commandBytes c)
-commandShown (Transfer.Write c payload) = write (commandBytes c)
-commandShown (Transfer.QuadRead c tclqv margin n sink) = high
-commandShown (Transfer.QuadWrite c payload) = high
+commandShown (Transfer.Framed c body) = pick (isQuad body) high (write (commandBytes c))
 
 -- the read or the write behind it, or the quad call
+abbrev pub bodyShown : Command → Body → List ℕ → Shown
+bodyShown c Body.None given = high
+bodyShown c (Body.Read n sink) given = read n
+bodyShown c (Body.Write payload) given = write (payloadBytes payload given)
+bodyShown c (Body.QuadRead tclqv margin n sink) given = quadRead (commandBytes c) tclqv margin n
+bodyShown c (Body.QuadWrite payload) given = quadWrite (commandBytes c) (payloadBytes payload given)
+
 abbrev pub payloadShown : Transfer → List ℕ → Shown
 payloadShown Transfer.Raise given = high
 payloadShown (Transfer.Pause us) given = high
-payloadShown (Transfer.Send c) given = high
-payloadShown (Transfer.Read c n sink) given = read n
-payloadShown (Transfer.Write c payload) given = write (payloadBytes payload given)
-payloadShown (Transfer.QuadRead c tclqv margin n sink) given = quadRead (commandBytes c) tclqv margin n
-payloadShown (Transfer.QuadWrite c payload) given = quadWrite (commandBytes c) (payloadBytes payload given)
+payloadShown (Transfer.Framed c body) given = bodyShown c body given
 
 -- by the stage of the transfer, on the caller's data
 abbrev pub shownAt : Stage → Transfer → List ℕ → Shown
@@ -85,20 +82,19 @@ payloadPlace Payload.Marker i = within 261 1 i
 abbrev pub commandTouches : Transfer → ℕ → Bool
 commandTouches Transfer.Raise i = false
 commandTouches (Transfer.Pause us) i = false
-commandTouches (Transfer.Send c) i = commandPlace c i
-commandTouches (Transfer.Read c n sink) i = commandPlace c i
-commandTouches (Transfer.Write c payload) i = commandPlace c i
-commandTouches (Transfer.QuadRead c tclqv margin n sink) i = false
-commandTouches (Transfer.QuadWrite c payload) i = false
+commandTouches (Transfer.Framed c body) i = pick (isQuad body) false (commandPlace c i)
+
+abbrev pub bodyTouches : Command → Body → ℕ → Bool
+bodyTouches c Body.None i = false
+bodyTouches c (Body.Read n sink) i = false
+bodyTouches c (Body.Write payload) i = payloadPlace payload i
+bodyTouches c (Body.QuadRead tclqv margin n sink) i = commandPlace c i
+bodyTouches c (Body.QuadWrite payload) i = commandPlace c i || payloadPlace payload i
 
 abbrev pub payloadTouches : Transfer → ℕ → Bool
 payloadTouches Transfer.Raise i = false
 payloadTouches (Transfer.Pause us) i = false
-payloadTouches (Transfer.Send c) i = false
-payloadTouches (Transfer.Read c n sink) i = false
-payloadTouches (Transfer.Write c payload) i = payloadPlace payload i
-payloadTouches (Transfer.QuadRead c tclqv margin n sink) i = commandPlace c i
-payloadTouches (Transfer.QuadWrite c payload) i = commandPlace c i || payloadPlace payload i
+payloadTouches (Transfer.Framed c body) i = bodyTouches c body i
 
 abbrev pub touchedAt : Stage → Transfer → ℕ → Bool
 touchedAt Stage.Start t i = false

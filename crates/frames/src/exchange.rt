@@ -9,10 +9,11 @@ use crate::frame::Stage;
 use qspi::bus;
 use qspi::bus::Reply;
 use qspi::bytes;
+use qspi::transfer::Body;
 use qspi::transfer::Sink;
 use qspi::transfer::Transfer;
 ghost use mathlib.Core.Path.{_≡_};
-ghost use Rattle.frames.specs.Frame.{afterStart, afterCommand, nextStage, sinkOf, valueOf, movedOn, advancedOf, takenIn, deliveredBy, exchangedTo, exchangeOf};
+ghost use Rattle.frames.specs.Frame.{afterStart, bodyStage, afterCommand, nextStage, bodySink, sinkOf, valueOf, movedOn, advancedOf, takenIn, deliveredBy, exchangedTo, exchangeOf};
 
 fn after_start(transfer: Transfer) -> Following
     ensures { λ r. ⌜ r ≡ afterStart transfer ⌝ }
@@ -20,27 +21,29 @@ fn after_start(transfer: Transfer) -> Following
     match transfer {
         Transfer::Raise => Following::Over,
         Transfer::Pause(_) => Following::Over,
-        Transfer::Send(_) => Following::To(Stage::Command),
-        Transfer::Read {
-            command: _,
-            len: _,
-            sink: _,
-        } => Following::To(Stage::Command),
-        Transfer::Write {
-            command: _,
-            payload: _,
-        } => Following::To(Stage::Command),
-        Transfer::QuadRead {
-            command: _,
+        Transfer::Framed { command: _, body } => {
+            if frame::is_quad(body) {
+                return Following::To(Stage::Payload);
+            }
+            Following::To(Stage::Command)
+        }
+    }
+}
+
+fn body_stage(body: Body) -> Stage
+    ensures { λ r. ⌜ r ≡ bodyStage body ⌝ }
+{
+    match body {
+        Body::None => Stage::High,
+        Body::Read { len: _, sink: _ } => Stage::Payload,
+        Body::Write(_) => Stage::Payload,
+        Body::QuadRead {
             tclqv_ns: _,
             margin: _,
             len: _,
             sink: _,
-        } => Following::To(Stage::Payload),
-        Transfer::QuadWrite {
-            command: _,
-            payload: _,
-        } => Following::To(Stage::Payload),
+        } => Stage::High,
+        Body::QuadWrite(_) => Stage::High,
     }
 }
 
@@ -50,27 +53,7 @@ fn after_command(transfer: Transfer) -> Following
     match transfer {
         Transfer::Raise => Following::To(Stage::High),
         Transfer::Pause(_) => Following::To(Stage::High),
-        Transfer::Send(_) => Following::To(Stage::High),
-        Transfer::Read {
-            command: _,
-            len: _,
-            sink: _,
-        } => Following::To(Stage::Payload),
-        Transfer::Write {
-            command: _,
-            payload: _,
-        } => Following::To(Stage::Payload),
-        Transfer::QuadRead {
-            command: _,
-            tclqv_ns: _,
-            margin: _,
-            len: _,
-            sink: _,
-        } => Following::To(Stage::High),
-        Transfer::QuadWrite {
-            command: _,
-            payload: _,
-        } => Following::To(Stage::High),
+        Transfer::Framed { command: _, body } => Following::To(body_stage(body)),
     }
 }
 
@@ -85,33 +68,30 @@ fn next_stage(transfer: Transfer, stage: Stage) -> Following
     }
 }
 
+fn body_sink(body: Body) -> Sink
+    ensures { λ r. ⌜ r ≡ bodySink body ⌝ }
+{
+    match body {
+        Body::None => Sink::Number,
+        Body::Read { len: _, sink } => sink,
+        Body::Write(_) => Sink::Number,
+        Body::QuadRead {
+            tclqv_ns: _,
+            margin: _,
+            len: _,
+            sink,
+        } => sink,
+        Body::QuadWrite(_) => Sink::Number,
+    }
+}
+
 fn sink_of(transfer: Transfer) -> Sink
     ensures { λ r. ⌜ r ≡ sinkOf transfer ⌝ }
 {
     match transfer {
         Transfer::Raise => Sink::Number,
         Transfer::Pause(_) => Sink::Number,
-        Transfer::Send(_) => Sink::Number,
-        Transfer::Read {
-            command: _,
-            len: _,
-            sink,
-        } => sink,
-        Transfer::Write {
-            command: _,
-            payload: _,
-        } => Sink::Number,
-        Transfer::QuadRead {
-            command: _,
-            tclqv_ns: _,
-            margin: _,
-            len: _,
-            sink,
-        } => sink,
-        Transfer::QuadWrite {
-            command: _,
-            payload: _,
-        } => Sink::Number,
+        Transfer::Framed { command: _, body } => body_sink(body),
     }
 }
 

@@ -5,12 +5,13 @@ use qspi::bus::Part;
 use qspi::bytes;
 use qspi::command;
 use qspi::command::Command;
+use qspi::transfer::Body;
 use qspi::transfer::Payload;
 use qspi::transfer::Transfer;
 ghost use mathlib.Core.Path.{_≡_};
 ghost use lib.ListN.{length};
 ghost use Rattle.qspi.specs.Command.{commandBytes};
-ghost use Rattle.frames.specs.Frame.{firstOf, payloadPart, withPayload, startAction, commandAction, payloadAction, actionOf, withCommandOf, withPayloadOf, givenScratch};
+ghost use Rattle.frames.specs.Frame.{firstOf, payloadPart, withPayload, isQuad, startAction, commandAction, bodyAction, payloadAction, actionOf, withCommandOf, withBody, withPayloadOf, givenScratch};
 
 // Which action of the transfer is out.
 pub enum Stage {
@@ -86,32 +87,33 @@ fn command_part(command: Command) -> Part
     Part::Scratch { from: 0, len: n }
 }
 
+// A quad call has the command with its data.
+pub fn is_quad(body: Body) -> bool
+    ensures { λ r. ⌜ r ≡ isQuad body ⌝ }
+{
+    match body {
+        Body::None => false,
+        Body::Read { len: _, sink: _ } => false,
+        Body::Write(_) => false,
+        Body::QuadRead {
+            tclqv_ns: _,
+            margin: _,
+            len: _,
+            sink: _,
+        } => true,
+        Body::QuadWrite(_) => true,
+    }
+}
+
 fn start_action(transfer: Transfer) -> Action
     ensures { λ r. ⌜ r ≡ startAction transfer ⌝ }
 {
     match transfer {
         Transfer::Raise => Action::SelectHigh,
         Transfer::Pause(us) => Action::Delay(us),
-        Transfer::Send(_) => Action::SelectLow,
-        Transfer::Read {
+        Transfer::Framed {
             command: _,
-            len: _,
-            sink: _,
-        } => Action::SelectLow,
-        Transfer::Write {
-            command: _,
-            payload: _,
-        } => Action::SelectLow,
-        Transfer::QuadRead {
-            command: _,
-            tclqv_ns: _,
-            margin: _,
-            len: _,
-            sink: _,
-        } => Action::SelectLow,
-        Transfer::QuadWrite {
-            command: _,
-            payload: _,
+            body: _,
         } => Action::SelectLow,
     }
 }
@@ -122,48 +124,23 @@ fn command_action(transfer: Transfer) -> Action
     match transfer {
         Transfer::Raise => Action::SelectHigh,
         Transfer::Pause(_) => Action::SelectHigh,
-        Transfer::Send(command) => Action::Write(command_part(command)),
-        Transfer::Read {
-            command,
-            len: _,
-            sink: _,
-        } => Action::Write(command_part(command)),
-        Transfer::Write {
-            command,
-            payload: _,
-        } => Action::Write(command_part(command)),
-        Transfer::QuadRead {
-            command: _,
-            tclqv_ns: _,
-            margin: _,
-            len: _,
-            sink: _,
-        } => Action::SelectHigh,
-        Transfer::QuadWrite {
-            command: _,
-            payload: _,
-        } => Action::SelectHigh,
+        Transfer::Framed { command, body } => {
+            if is_quad(body) {
+                return Action::SelectHigh;
+            }
+            Action::Write(command_part(command))
+        }
     }
 }
 
-fn payload_action(transfer: Transfer) -> Action
-    ensures { λ r. ⌜ r ≡ payloadAction transfer ⌝ }
+fn body_action(command: Command, body: Body) -> Action
+    ensures { λ r. ⌜ r ≡ bodyAction command body ⌝ }
 {
-    match transfer {
-        Transfer::Raise => Action::SelectHigh,
-        Transfer::Pause(_) => Action::SelectHigh,
-        Transfer::Send(_) => Action::SelectHigh,
-        Transfer::Read {
-            command: _,
-            len,
-            sink: _,
-        } => Action::Read(len),
-        Transfer::Write {
-            command: _,
-            payload,
-        } => Action::Write(payload_part(payload)),
-        Transfer::QuadRead {
-            command,
+    match body {
+        Body::None => Action::SelectHigh,
+        Body::Read { len, sink: _ } => Action::Read(len),
+        Body::Write(payload) => Action::Write(payload_part(payload)),
+        Body::QuadRead {
             tclqv_ns,
             margin,
             len,
@@ -174,10 +151,20 @@ fn payload_action(transfer: Transfer) -> Action
             margin: margin,
             len: len,
         },
-        Transfer::QuadWrite { command, payload } => Action::QuadWrite {
+        Body::QuadWrite(payload) => Action::QuadWrite {
             command: command_part(command),
             payload: payload_part(payload),
         },
+    }
+}
+
+fn payload_action(transfer: Transfer) -> Action
+    ensures { λ r. ⌜ r ≡ payloadAction transfer ⌝ }
+{
+    match transfer {
+        Transfer::Raise => Action::SelectHigh,
+        Transfer::Pause(_) => Action::SelectHigh,
+        Transfer::Framed { command, body } => body_action(command, body),
     }
 }
 
@@ -213,27 +200,32 @@ fn put_at_command(transfer: Transfer, scratch: &mut [u8])
     match transfer {
         Transfer::Raise => {}
         Transfer::Pause(_) => {}
-        Transfer::Send(command) => command::put_command(command, scratch),
-        Transfer::Read {
-            command,
-            len: _,
-            sink: _,
-        } => command::put_command(command, scratch),
-        Transfer::Write {
-            command,
-            payload: _,
-        } => command::put_command(command, scratch),
-        Transfer::QuadRead {
-            command: _,
+        Transfer::Framed { command, body } => {
+            if is_quad(body) {
+                return;
+            }
+            command::put_command(command, scratch);
+        }
+    }
+}
+
+fn put_body(command: Command, body: Body, scratch: &mut [u8])
+    ensures { λ _. ⌜ now (scratch .exit) ≡ withBody command body (now (scratch .entry)) ⌝ }
+{
+    match body {
+        Body::None => {}
+        Body::Read { len: _, sink: _ } => {}
+        Body::Write(payload) => put_payload(payload, scratch),
+        Body::QuadRead {
             tclqv_ns: _,
             margin: _,
             len: _,
             sink: _,
-        } => {}
-        Transfer::QuadWrite {
-            command: _,
-            payload: _,
-        } => {}
+        } => command::put_command(command, scratch),
+        Body::QuadWrite(payload) => {
+            command::put_command(command, scratch);
+            put_payload(payload, scratch);
+        }
     }
 }
 
@@ -243,27 +235,7 @@ fn put_at_payload(transfer: Transfer, scratch: &mut [u8])
     match transfer {
         Transfer::Raise => {}
         Transfer::Pause(_) => {}
-        Transfer::Send(_) => {}
-        Transfer::Read {
-            command: _,
-            len: _,
-            sink: _,
-        } => {}
-        Transfer::Write {
-            command: _,
-            payload,
-        } => put_payload(payload, scratch),
-        Transfer::QuadRead {
-            command,
-            tclqv_ns: _,
-            margin: _,
-            len: _,
-            sink: _,
-        } => command::put_command(command, scratch),
-        Transfer::QuadWrite { command, payload } => {
-            command::put_command(command, scratch);
-            put_payload(payload, scratch);
-        }
+        Transfer::Framed { command, body } => put_body(command, body, scratch),
     }
 }
 

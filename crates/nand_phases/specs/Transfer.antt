@@ -5,6 +5,7 @@ use lib.Dec.{leb, ltb}
 use Rattle.qspi.specs.Choice.{pick}
 use Rattle.qspi.specs.declared.transfer.Payload.{Payload}
 use Rattle.qspi.specs.declared.transfer.Sink.{Sink}
+use Rattle.qspi.specs.declared.transfer.Body.{Body}
 use Rattle.qspi.specs.declared.transfer.Transfer.{Transfer}
 use Rattle.spi_nand.specs.Command.{readIdCommand, getFeatureCommand, readCacheCommand, quadReadCacheCommand, loadProgramDataCommand, quadLoadProgramDataCommand}
 use Rattle.spi_nand.specs.Config.{cacheSizeOf, capacityOf}
@@ -16,25 +17,25 @@ use Rattle.nand_phases.specs.declared.phase.Task.{Task}
 
 -- read_register: its byte is a number
 abbrev pub registerTransfer : ℕ → Transfer
-registerTransfer register = Transfer.Read (getFeatureCommand register) 1 Sink.Number
+registerTransfer register = Transfer.Framed (getFeatureCommand register) (Body.Read 1 Sink.Number)
 
 -- jedec_id: its three bytes are a number
 abbrev pub idTransfer : Transfer
-idTransfer = Transfer.Read readIdCommand 3 Sink.Number
+idTransfer = Transfer.Framed readIdCommand (Body.Read 3 Sink.Number)
 
 -- read_cache: single-line or quad
 abbrev pub cacheReadAt : QuadSetting → ℕ → ℕ → Sink → Transfer
-cacheReadAt QuadSetting.Single column n sink = Transfer.Read (readCacheCommand column) n sink
+cacheReadAt QuadSetting.Single column n sink = Transfer.Framed (readCacheCommand column) (Body.Read n sink)
 cacheReadAt (QuadSetting.Quad q) column n sink =
-    Transfer.QuadRead (quadReadCacheCommand q column) (q .«tclqv_ns») (q .«dummy_margin») n sink
+    Transfer.Framed (quadReadCacheCommand q column) (Body.QuadRead (q .«tclqv_ns») (q .«dummy_margin») n sink)
 
 unfoldable pub cacheReadTransfer : SpiNandConfig → ℕ → ℕ → Sink → Transfer
 cacheReadTransfer config column n sink = cacheReadAt (config .quad) column n sink
 
 -- load_program_data: single-line or quad
 abbrev pub cacheLoadAt : QuadSetting → ℕ → Payload → Transfer
-cacheLoadAt QuadSetting.Single column payload = Transfer.Write (loadProgramDataCommand column) payload
-cacheLoadAt (QuadSetting.Quad q) column payload = Transfer.QuadWrite (quadLoadProgramDataCommand q column) payload
+cacheLoadAt QuadSetting.Single column payload = Transfer.Framed (loadProgramDataCommand column) (Body.Write payload)
+cacheLoadAt (QuadSetting.Quad q) column payload = Transfer.Framed (quadLoadProgramDataCommand q column) (Body.QuadWrite payload)
 
 unfoldable pub cacheLoadTransfer : SpiNandConfig → ℕ → Payload → Transfer
 cacheLoadTransfer config column payload = cacheLoadAt (config .quad) column payload

@@ -1,5 +1,6 @@
 // The transfers of the calls, at the configured bus width.
 use crate::phase::Task;
+use qspi::transfer::Body;
 use qspi::transfer::Payload;
 use qspi::transfer::Sink;
 use qspi::transfer::Transfer;
@@ -16,10 +17,12 @@ ghost use Rattle.nand_phases.specs.Transfer.{registerTransfer, idTransfe
 pub fn register_transfer(register: u8) -> Transfer
     ensures { λ r. ⌜ r ≡ registerTransfer register ⌝ }
 {
-    Transfer::Read {
+    Transfer::Framed {
         command: command::get_feature_command(register),
-        len: 1,
-        sink: Sink::Number,
+        body: Body::Read {
+            len: 1,
+            sink: Sink::Number,
+        },
     }
 }
 
@@ -27,10 +30,12 @@ pub fn register_transfer(register: u8) -> Transfer
 pub fn id_transfer() -> Transfer
     ensures { λ r. ⌜ r ≡ idTransfer ⌝ }
 {
-    Transfer::Read {
+    Transfer::Framed {
         command: command::read_id_command(),
-        len: 3,
-        sink: Sink::Number,
+        body: Body::Read {
+            len: 3,
+            sink: Sink::Number,
+        },
     }
 }
 
@@ -40,17 +45,21 @@ pub fn cache_read_transfer(config: SpiNandConfig, column: usize, len: usize, sin
 {
     let quad = config.quad;
     match quad {
-        QuadSetting::Single => Transfer::Read {
+        QuadSetting::Single => Transfer::Framed {
             command: command::read_cache_command(column),
-            len: len,
-            sink: sink,
+            body: Body::Read {
+                len: len,
+                sink: sink,
+            },
         },
-        QuadSetting::Quad(q) => Transfer::QuadRead {
+        QuadSetting::Quad(q) => Transfer::Framed {
             command: command::quad_read_cache_command(q, column),
-            tclqv_ns: q.tclqv_ns,
-            margin: q.dummy_margin,
-            len: len,
-            sink: sink,
+            body: Body::QuadRead {
+                tclqv_ns: q.tclqv_ns,
+                margin: q.dummy_margin,
+                len: len,
+                sink: sink,
+            },
         },
     }
 }
@@ -61,13 +70,13 @@ pub fn cache_load_transfer(config: SpiNandConfig, column: usize, payload: Payloa
 {
     let quad = config.quad;
     match quad {
-        QuadSetting::Single => Transfer::Write {
+        QuadSetting::Single => Transfer::Framed {
             command: command::load_program_data_command(column),
-            payload: payload,
+            body: Body::Write(payload),
         },
-        QuadSetting::Quad(q) => Transfer::QuadWrite {
+        QuadSetting::Quad(q) => Transfer::Framed {
             command: command::quad_load_program_data_command(q, column),
-            payload: payload,
+            body: Body::QuadWrite(payload),
         },
     }
 }

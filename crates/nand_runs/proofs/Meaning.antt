@@ -2,6 +2,7 @@
 use Prim.Native.Nat.{ℕ, _+_, _%_}
 use mathlib.Core.Bool.{Bool, true, false, not}
 use lib.Dec.{leb, eqb}
+use Rattle.qspi.specs.Transfer.{commandOnly}
 use Rattle.qspi.specs.Choice.{pick}
 use Rattle.qspi.specs.declared.transfer.Payload.{Payload}
 use Rattle.qspi.specs.declared.transfer.Sink.{Sink}
@@ -195,11 +196,11 @@ resumed s (Task.Erase why) = read-status >>= erased s why
 unfoldable pub enabled : Setup → EnableFor → Prog Left
 enabled s EnableFor.Call = DONE s
 enabled s (EnableFor.Register register value why) =
-    (transfer (Transfer.Send (setFeatureCommand register value)) >> wait-ready Operation.WriteRegister) >> written s why
+    (transfer (commandOnly (setFeatureCommand register value)) >> wait-ready Operation.WriteRegister) >> written s why
 enabled s (EnableFor.WritePage page) =
     load-program-data s 0 (s .geometry .«page_size») (Payload.Data 0 (s .geometry .«page_size»)) >> program-page s page
 enabled s (EnableFor.Erase block why) =
-    (transfer (Transfer.Send (blockEraseCommand (firstPageOf (s .geometry) block))) >> wait-ready Operation.Erase)
+    (transfer (commandOnly (blockEraseCommand (firstPageOf (s .geometry) block))) >> wait-ready Operation.Erase)
     >> (read-status >>= erased s why)
 enabled s (EnableFor.MarkBad block) = fill-on s block 0
 

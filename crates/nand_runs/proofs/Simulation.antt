@@ -6,10 +6,12 @@ use mathlib.Core.Path.{_≡_, refl, ap, sym, _∙_, fun-ext}
 use lib.Bits.{bitOr}
 use lib.Dec.{ltb, leb, eqb}
 use borrow.Author.Tests.{leb-false, le-leb, eq-eqb}
+use Rattle.qspi.specs.Transfer.{commandOnly}
 use Rattle.qspi.specs.Choice.{pick}
 use Rattle.qspi.specs.declared.command.Command.{Command}
 use Rattle.qspi.specs.declared.transfer.Payload.{Payload}
 use Rattle.qspi.specs.declared.transfer.Sink.{Sink}
+use Rattle.qspi.specs.declared.transfer.Body.{Body}
 use Rattle.qspi.specs.declared.transfer.Transfer.{Transfer}
 use Rattle.qspi.proofs.Cases.{by-cases}
 use Rattle.spi_flash.specs.Prog.{Prog, ret, fail, ask, if_then_else_, _>>=_, _>>_, refuse, transfer}
@@ -95,12 +97,12 @@ loads-cache s column n payload phase p e =
 
 -- ---- a command and its wait
 
-pub sends : (s : Setup) (c : Command) (task : Task) → (transfer (Transfer.Send c) >> wait-ready (taskOperation task)) >> resumed s task
-    ≡ tree meaning (more (Transfer.Send c) (place s (Phase.Waiting task WaitStep.Command 0)))
+pub sends : (s : Setup) (c : Command) (task : Task) → (transfer (Transfer.Framed c Body.None) >> wait-ready (taskOperation task)) >> resumed s task
+    ≡ tree meaning (more (Transfer.Framed c Body.None) (place s (Phase.Waiting task WaitStep.Command 0)))
 unfolding meaningAt _>>=_ _>>_
 sends s c task = refl
 
-pub enables : (s : Setup) (why : EnableFor) → write-enable >> enabled s why ≡ tree meaning (more (Transfer.Send writeEnableCommand) (place s (Phase.Enabling why EnableStep.Command)))
+pub enables : (s : Setup) (why : EnableFor) → write-enable >> enabled s why ≡ tree meaning (more (commandOnly writeEnableCommand) (place s (Phase.Enabling why EnableStep.Command)))
 unfolding write-enable meaningAt latch _>>=_ _>>_
 enables s why = refl
 
@@ -181,7 +183,7 @@ module _ (s : Setup) where
   unfolding program-execute programThen programmed taskOperation resumed _>>_
   programs page why =
       let judge : Status → Prog Nothing = λ status. refuse (programFailedOf status) FlashError.ProgramFailed in
-      let sending = transfer (Transfer.Send (programExecuteCommand page)) in
+      let sending = transfer (commandOnly (programExecuteCommand page)) in
       tested (ltb page (pageCountOf (s .geometry))) _ (λ u. after-program s why) _
       (then-assoc sending (wait-ready Operation.Program >> (read-status >>= judge)) (after-program s why)
       ∙ ap (λ p. sending >> p) (then-assoc (wait-ready Operation.Program) (read-status >>= judge) (after-program s why) ∙ ap (λ p. wait-ready Operation.Program >> p) (status-then judge (after-program s why)))
@@ -193,7 +195,7 @@ module _ (s : Setup) where
   unfolding erase-block eraseThen erased enabled _>>_
   erases block why =
       let judge : Status → Prog Nothing = λ status. refuse (eraseFailedOf status) FlashError.EraseFailed in
-      let sending = transfer (Transfer.Send (blockEraseCommand (firstPageOf (s .geometry) block))) in
+      let sending = transfer (commandOnly (blockEraseCommand (firstPageOf (s .geometry) block))) in
       tested (ltb block (s .geometry .«block_count»)) _ (λ u. after-erase s why) _
       (then-assoc write-enable (sending >> (wait-ready Operation.Erase >> (read-status >>= judge))) (after-erase s why)
       ∙ ap (λ p. write-enable >> p)
@@ -205,7 +207,7 @@ module _ (s : Setup) where
 
 -- write_register and what follows it
 pub registers : (s : Setup) (register value : ℕ) (why : RegisterFor) → write-register register value >> written s why
-    ≡ tree meaning (more (Transfer.Send writeEnableCommand) (place s (Phase.Enabling (EnableFor.Register register value why) EnableStep.Command)))
+    ≡ tree meaning (more (commandOnly writeEnableCommand) (place s (Phase.Enabling (EnableFor.Register register value why) EnableStep.Command)))
 unfolding write-register enabled
 registers s register value why = then-assoc write-enable _ (written s why) ∙ enables s (EnableFor.Register register value why)
 

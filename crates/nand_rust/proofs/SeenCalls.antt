@@ -8,6 +8,7 @@ use mathlib.Core.List.{List, [], _∷_, _++_, append-nil}
 use lib.Bits.{bitAnd}
 use lib.ListN.{length}
 use lib.Dec.{leb, ltb, eqb}
+use Rattle.qspi.specs.Transfer.{commandOnly}
 use Rattle.qspi.specs.Address.{readFrom}
 use Rattle.qspi.specs.declared.transfer.Sink.{Sink}
 use Rattle.qspi.specs.declared.transfer.Transfer.{Transfer}
@@ -161,12 +162,12 @@ module _ (R : List ℕ → List ReadByte → List ℕ → Bool → Type 0) where
   -- ---- a load, and its verdict
 
   module _ (page : ℕ) (small : page < 16777216) (mine : Bool) (load : Load) (t : Tally) (q : Right t) (more : Right (loaded page t)) where
-    command : To (at false (Observer.waiting page) (loaded page t)) (at mine load t) (transfer (Transfer.Send (pageReadCommand page)))
+    command : To (at false (Observer.waiting page) (loaded page t)) (at mine load t) (transfer (commandOnly (pageReadCommand page)))
     command =
         let sent : readFrom 0 (address page) ≡ page = address-exact page small in
         let after : Right (loaded (readFrom 0 (address page)) t) = rw sent more in
-        subst (λ p. To (at false (Observer.waiting p) (loaded p t)) (at mine load t) (transfer (Transfer.Send (pageReadCommand page)))) sent
-        (shows-transfer watcher Q (Transfer.Send (pageReadCommand page)) (q, (after, (after, (after, refl)))))
+        subst (λ p. To (at false (Observer.waiting p) (loaded p t)) (at mine load t) (transfer (commandOnly (pageReadCommand page)))) sent
+        (shows-transfer watcher Q (commandOnly (pageReadCommand page)) (q, (after, (after, (after, refl)))))
 
     loading : To (at false (waited page) (loaded page t)) (at mine load t) (load-page page)
     unfolding load-page

@@ -7,6 +7,7 @@ use borrow.Author.Tests.{not-false}
 use Rattle.qspi.specs.declared.command.Command.{Command}
 use Rattle.qspi.specs.declared.transfer.Payload.{Payload}
 use Rattle.qspi.specs.declared.transfer.Sink.{Sink}
+use Rattle.qspi.specs.declared.transfer.Body.{Body}
 use Rattle.qspi.specs.declared.transfer.Transfer.{Transfer}
 use Rattle.spi_flash.specs.Prog.{if_then_else_, transfer}
 use Rattle.spi_flash.specs.Path.{Bounded}
@@ -34,8 +35,8 @@ taking moved fill (Sink.Compare from) = moved
 
 -- figures for the transfers of the NAND, but for the raise of select
 pub record Weighs (w : Transfer → ℕ) (send moved fill : ℕ) (waits : Operation → ℕ) : Type 0 where
-  pub sent : (c : Command) → w (Transfer.Send c) ≤ send
-  pub number : (c : Command) (n : ℕ) → w (Transfer.Read c n Sink.Number) ≤ moved
+  pub sent : (c : Command) → w (Transfer.Framed c Body.None) ≤ send
+  pub number : (c : Command) (n : ℕ) → w (Transfer.Framed c (Body.Read n Sink.Number)) ≤ moved
   pub taken : (q : QuadSetting) (column n : ℕ) (sink : Sink) → w (cacheReadAt q column n sink) ≤ taking moved fill sink
   pub loaded : (q : QuadSetting) (column : ℕ) (payload : Payload) → w (cacheLoadAt q column payload) ≤ moved
   pub waited : (operation : Operation) → Bounded w (waits operation) (wait-ready operation)
@@ -56,10 +57,10 @@ module _ {w : Transfer → ℕ} {send moved fill : ℕ} {waits : Operation → �
 
   -- ---- registers
 
-  bounded-send : (c : Command) → Bounded w send (transfer (Transfer.Send c))
+  bounded-send : (c : Command) → Bounded w send (transfer (Transfer.Framed c Body.None))
   bounded-send c = bounded-more (figures .sent c) bounded-transfer
 
-  bounded-number : (c : Command) (n : ℕ) → Bounded w moved (transfer (Transfer.Read c n Sink.Number))
+  bounded-number : (c : Command) (n : ℕ) → Bounded w moved (transfer (Transfer.Framed c (Body.Read n Sink.Number)))
   bounded-number c n = bounded-more (figures .number c n) bounded-transfer
 
   bounded-register : (register : ℕ) → Bounded w moved (read-register register)

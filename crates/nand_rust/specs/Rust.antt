@@ -7,6 +7,7 @@ use Prim.Native.Nat.{ℕ, zero, suc, _+_, _-_, _*_, _/_, _%_}
 use mathlib.Core.Bool.{Bool, true, false, not}
 use lib.Bits.{bitOr}
 use lib.Dec.{ltb, eqb}
+use Rattle.qspi.specs.Transfer.{commandOnly}
 use Rattle.qspi.specs.declared.transfer.Payload.{Payload}
 use Rattle.qspi.specs.declared.transfer.Sink.{Sink}
 use Rattle.qspi.specs.declared.transfer.Transfer.{Transfer}
@@ -70,7 +71,7 @@ wait-ready operation = delayedWait (getFeatureCommand REG-STATUS) busyValue (tim
 -- fn write_enable
 unfoldable pub write-enable : Prog Nothing
 write-enable = do
-  transfer (Transfer.Send writeEnableCommand)
+  transfer (commandOnly writeEnableCommand)
   status ← read-status
   refuse (not (writeEnabledOf status)) FlashError.WriteEnableFailed
 
@@ -78,7 +79,7 @@ write-enable = do
 unfoldable pub write-register : ℕ → ℕ → Prog Nothing
 write-register register value = do
   write-enable
-  transfer (Transfer.Send (setFeatureCommand register value))
+  transfer (commandOnly (setFeatureCommand register value))
   wait-ready Operation.WriteRegister
 
 -- fn disable_quad
@@ -95,7 +96,7 @@ disable-quad = do
 -- fn reset
 unfoldable pub reset : Prog Nothing
 reset = do
-  transfer (Transfer.Send resetCommand)
+  transfer (commandOnly resetCommand)
   wait-ready Operation.Reset
 
 -- fn jedec_id: from_bytes of the three bytes, which are a number here
@@ -152,7 +153,7 @@ bring-up config = do
 -- fn load_page
 unfoldable pub load-page : ℕ → Prog Nothing
 load-page page = do
-  transfer (Transfer.Send (pageReadCommand page))
+  transfer (commandOnly (pageReadCommand page))
   wait-ready Operation.PageRead
 
 -- `== EccVerdict::Uncorrectable`
@@ -199,7 +200,7 @@ module _ (flash : Setup) where
   unfoldable pub program-execute : ℕ → Prog Nothing
   program-execute page = do
     check-page page
-    transfer (Transfer.Send (programExecuteCommand page))
+    transfer (commandOnly (programExecuteCommand page))
     wait-ready Operation.Program
     status ← read-status
     refuse (programFailedOf status) FlashError.ProgramFailed
@@ -231,7 +232,7 @@ module _ (flash : Setup) where
   erase-block block = do
     check-block block
     write-enable
-    transfer (Transfer.Send (blockEraseCommand (firstPageOf geometry block)))
+    transfer (commandOnly (blockEraseCommand (firstPageOf geometry block)))
     wait-ready Operation.Erase
     status ← read-status
     refuse (eraseFailedOf status) FlashError.EraseFailed

@@ -1,6 +1,8 @@
 -- The steps that calls are made of (nand/driver.rs).
 use Prim.Native.Nat.{ℕ}
+use Rattle.qspi.specs.Transfer.{commandOnly}
 use Rattle.qspi.specs.declared.command.Command.{Command}
+use Rattle.qspi.specs.declared.transfer.Body.{Body}
 use Rattle.qspi.specs.declared.transfer.Transfer.{Transfer}
 use Rattle.spi_nand.specs.Command.{resetCommand, writeEnableCommand}
 use Rattle.spi_nand.specs.Opcode.{REG-STATUS}
@@ -41,7 +43,7 @@ look setup phase = goTo setup (registerTransfer REG-STATUS) phase
 
 -- a command that is waited for
 abbrev pub send : Setup → Command → Task → Then
-send setup command task = goTo setup (Transfer.Send command) (Phase.Waiting task WaitStep.Command 0)
+send setup command task = goTo setup (Transfer.Framed command Body.None) (Phase.Waiting task WaitStep.Command 0)
 
 -- reset
 abbrev pub reset : Setup → ResetFor → Then
@@ -49,4 +51,4 @@ reset setup why = send setup resetCommand (Task.Reset why)
 
 -- write_enable
 abbrev pub enable : Setup → EnableFor → Then
-enable setup why = goTo setup (Transfer.Send writeEnableCommand) (Phase.Enabling why EnableStep.Command)
+enable setup why = goTo setup (commandOnly writeEnableCommand) (Phase.Enabling why EnableStep.Command)

@@ -83,7 +83,7 @@ pub fn send(setup: Setup, command: Command, task: Task) -> Then
 {
     go(
         setup,
-        Transfer::Send(command),
+        qspi::transfer::command_only(command),
         Phase::Waiting {
             task: task,
             at: WaitStep::Command,
@@ -105,7 +105,7 @@ pub fn enable(setup: Setup, why: EnableFor) -> Then
 {
     go(
         setup,
-        Transfer::Send(command::write_enable_command()),
+        qspi::transfer::command_only(command::write_enable_command()),
         Phase::Enabling {
             why: why,
             at: EnableStep::Command,

@@ -2,10 +2,12 @@
 use Prim.Native.Nat.{ℕ, _+_, _-_, _%_, _^_}
 use mathlib.Core.Bool.{Bool, true, false}
 use lib.Dec.{ltb, leb, eqb}
+use Rattle.qspi.specs.Transfer.{commandOnly}
 use Rattle.qspi.specs.Choice.{pick}
 use Rattle.qspi.specs.declared.command.Command.{Command}
 use Rattle.qspi.specs.declared.transfer.Payload.{Payload}
 use Rattle.qspi.specs.declared.transfer.Sink.{Sink}
+use Rattle.qspi.specs.declared.transfer.Body.{Body}
 use Rattle.qspi.specs.declared.transfer.Transfer.{Transfer}
 use Rattle.spi_nor.specs.Opcode.{MAX-BULK-LEN}
 use Rattle.spi_nor.specs.Status.{withQuad1Of, withQuad2Of, withoutQuad1Of, withoutQuad2Of, unprotected1Of, unprotected2Of}
@@ -19,7 +21,7 @@ use Rattle.spi_nor.specs.declared.opcode.Operation.{Operation}
 
 -- a register or an id: its bytes are a number
 abbrev pub numberTransfer : Command → ℕ → Transfer
-numberTransfer command n = Transfer.Read command n Sink.Number
+numberTransfer command n = Transfer.Framed command (Body.Read n Sink.Number)
 
 -- the Rust's `a + b` of u32, and `n as u32`; inside the bounds neither wraps
 abbrev pub u32Add : ℕ → ℕ → ℕ
@@ -42,33 +44,33 @@ pageOf device len done = pick (ltb done len) (pick (leb (len - done) (device .«
 
 -- read: single-line or quad
 abbrev pub readAt : QuadSetting → ℕ → ℕ → Sink → Transfer
-readAt QuadSetting.Single offset n sink = Transfer.Read (readCommand offset) n sink
-readAt (QuadSetting.Quad q) offset n sink = Transfer.QuadRead (quadReadCommand q offset) (q .«tclqv_ns») (q .«dummy_margin») n sink
+readAt QuadSetting.Single offset n sink = Transfer.Framed (readCommand offset) (Body.Read n sink)
+readAt (QuadSetting.Quad q) offset n sink = Transfer.Framed (quadReadCommand q offset) (Body.QuadRead (q .«tclqv_ns») (q .«dummy_margin») n sink)
 
 unfoldable pub readTransfer : Setup → ℕ → ℕ → Sink → Transfer
 readTransfer setup offset n sink = readAt (setup .config .quad) offset n sink
 
 -- page_program: single-line or quad
 abbrev pub programAt : QuadSetting → ℕ → ℕ → ℕ → Transfer
-programAt QuadSetting.Single offset from n = Transfer.Write (pageProgramCommand offset) (Payload.Data from n)
-programAt (QuadSetting.Quad q) offset from n = Transfer.QuadWrite (quadPageProgramCommand q offset) (Payload.Data from n)
+programAt QuadSetting.Single offset from n = Transfer.Framed (pageProgramCommand offset) (Body.Write (Payload.Data from n))
+programAt (QuadSetting.Quad q) offset from n = Transfer.Framed (quadPageProgramCommand q offset) (Body.QuadWrite (Payload.Data from n))
 
 unfoldable pub programTransfer : Setup → ℕ → ℕ → ℕ → Transfer
 programTransfer setup offset from n = programAt (setup .config .quad) offset from n
 
 -- erase_sector, erase_block: the command
 abbrev pub eraseTransfer : EraseKind → ℕ → Transfer
-eraseTransfer EraseKind.Sector address = Transfer.Send (sectorEraseCommand address)
-eraseTransfer EraseKind.Block address = Transfer.Send (blockEraseCommand address)
+eraseTransfer EraseKind.Sector address = commandOnly (sectorEraseCommand address)
+eraseTransfer EraseKind.Block address = commandOnly (blockEraseCommand address)
 
 -- what a task sends once the write-enable latch is set
 unfoldable pub taskTransfer : Setup → Task → Transfer
-taskTransfer setup (Task.EnableQuad2 status2) = Transfer.Send (writeStatus2Command (withQuad2Of status2))
-taskTransfer setup (Task.EnableQuad1 status1) = Transfer.Send (writeStatus1Command (withQuad1Of status1))
-taskTransfer setup (Task.DisableQuad2 status2) = Transfer.Send (writeStatus2Command (withoutQuad2Of status2))
-taskTransfer setup (Task.DisableQuad1 status1) = Transfer.Send (writeStatus1Command (withoutQuad1Of status1))
-taskTransfer setup (Task.Unprotect1 before status2) = Transfer.Send (writeStatus1Command (unprotected1Of before))
-taskTransfer setup (Task.Unprotect2 before status2) = Transfer.Send (writeStatus2Command (unprotected2Of status2))
+taskTransfer setup (Task.EnableQuad2 status2) = commandOnly (writeStatus2Command (withQuad2Of status2))
+taskTransfer setup (Task.EnableQuad1 status1) = commandOnly (writeStatus1Command (withQuad1Of status1))
+taskTransfer setup (Task.DisableQuad2 status2) = commandOnly (writeStatus2Command (withoutQuad2Of status2))
+taskTransfer setup (Task.DisableQuad1 status1) = commandOnly (writeStatus1Command (withoutQuad1Of status1))
+taskTransfer setup (Task.Unprotect1 before status2) = commandOnly (writeStatus1Command (unprotected1Of before))
+taskTransfer setup (Task.Unprotect2 before status2) = commandOnly (writeStatus2Command (unprotected2Of status2))
 taskTransfer setup (Task.PageProgram offset len done) =
     programTransfer setup (placeOf offset done) done (pageOf (setup .device) len done)
 taskTransfer setup (Task.Erase kind address end) = eraseTransfer kind address

@@ -3,6 +3,7 @@ use crate::phase::EraseKind;
 use crate::phase::Task;
 use crate::setup::Setup;
 use qspi::command::Command;
+use qspi::transfer::Body;
 use qspi::transfer::Payload;
 use qspi::transfer::Sink;
 use qspi::transfer::Transfer;
@@ -20,10 +21,12 @@ ghost use Rattle.nor_phases.specs.Transfer.{numberTransfer, placeOf, chu
 pub fn number_transfer(command: Command, len: usize) -> Transfer
     ensures { λ r. ⌜ r ≡ numberTransfer command len ⌝ }
 {
-    Transfer::Read {
+    Transfer::Framed {
         command: command,
-        len: len,
-        sink: Sink::Number,
+        body: Body::Read {
+            len: len,
+            sink: Sink::Number,
+        },
     }
 }
 
@@ -83,17 +86,21 @@ pub fn read_transfer(setup: Setup, offset: u32, len: usize, sink: Sink) -> Trans
     let config = setup.config;
     let quad = config.quad;
     match quad {
-        QuadSetting::Single => Transfer::Read {
+        QuadSetting::Single => Transfer::Framed {
             command: command::read_command(offset),
-            len: len,
-            sink: sink,
+            body: Body::Read {
+                len: len,
+                sink: sink,
+            },
         },
-        QuadSetting::Quad(q) => Transfer::QuadRead {
+        QuadSetting::Quad(q) => Transfer::Framed {
             command: command::quad_read_command(q, offset),
-            tclqv_ns: q.tclqv_ns,
-            margin: q.dummy_margin,
-            len: len,
-            sink: sink,
+            body: Body::QuadRead {
+                tclqv_ns: q.tclqv_ns,
+                margin: q.dummy_margin,
+                len: len,
+                sink: sink,
+            },
         },
     }
 }
@@ -108,13 +115,13 @@ fn program_transfer(setup: Setup, offset: u32, from: usize, len: usize) -> Trans
         len: len,
     };
     match quad {
-        QuadSetting::Single => Transfer::Write {
+        QuadSetting::Single => Transfer::Framed {
             command: command::page_program_command(offset),
-            payload: payload,
+            body: Body::Write(payload),
         },
-        QuadSetting::Quad(q) => Transfer::QuadWrite {
+        QuadSetting::Quad(q) => Transfer::Framed {
             command: command::quad_page_program_command(q, offset),
-            payload: payload,
+            body: Body::QuadWrite(payload),
         },
     }
 }
@@ -123,8 +130,8 @@ fn erase_transfer(kind: EraseKind, address: u32) -> Transfer
     ensures { λ r. ⌜ r ≡ eraseTransfer kind address ⌝ }
 {
     match kind {
-        EraseKind::Sector => Transfer::Send(command::sector_erase_command(address)),
-        EraseKind::Block => Transfer::Send(command::block_erase_command(address)),
+        EraseKind::Sector => qspi::transfer::command_only(command::sector_erase_command(address)),
+        EraseKind::Block => qspi::transfer::command_only(command::block_erase_command(address)),
     }
 }
 
@@ -134,22 +141,34 @@ pub fn task_transfer(setup: Setup, task: Task) -> Transfer
 {
     match task {
         Task::EnableQuad2(status2) => {
-            Transfer::Send(command::write_status2_command(status::with_quad2(status2)))
+            qspi::transfer::command_only(command::write_status2_command(status::with_quad2(
+                status2,
+            )))
         }
         Task::EnableQuad1(status1) => {
-            Transfer::Send(command::write_status1_command(status::with_quad1(status1)))
+            qspi::transfer::command_only(command::write_status1_command(status::with_quad1(
+                status1,
+            )))
         }
         Task::DisableQuad2(status2) => {
-            Transfer::Send(command::write_status2_command(status::without_quad2(status2)))
+            qspi::transfer::command_only(command::write_status2_command(status::without_quad2(
+                status2,
+            )))
         }
         Task::DisableQuad1(status1) => {
-            Transfer::Send(command::write_status1_command(status::without_quad1(status1)))
+            qspi::transfer::command_only(command::write_status1_command(status::without_quad1(
+                status1,
+            )))
         }
         Task::Unprotect1 { before, status2: _ } => {
-            Transfer::Send(command::write_status1_command(status::unprotected1(before)))
+            qspi::transfer::command_only(command::write_status1_command(status::unprotected1(
+                before,
+            )))
         }
         Task::Unprotect2 { before: _, status2 } => {
-            Transfer::Send(command::write_status2_command(status::unprotected2(status2)))
+            qspi::transfer::command_only(command::write_status2_command(status::unprotected2(
+                status2,
+            )))
         }
         Task::PageProgram { offset, len, done } => program_transfer(
             setup,

@@ -5,6 +5,7 @@ use mathlib.Core.Bool.{Bool, true, false, not}
 use mathlib.Core.Path.{_≡_, refl, ap, sym, _∙_, fun-ext}
 use lib.Dec.{ltb, leb, eqb}
 use borrow.Author.Tests.{leb-true, leb-false, le-leb, le-ltb, lt-ltb}
+use Rattle.qspi.specs.Transfer.{commandOnly}
 use Rattle.qspi.specs.declared.transfer.Transfer.{Transfer}
 use Rattle.spi_flash.specs.Prog.{Prog, ret, fail, ask, if_then_else_, _>>=_, _>>_, refuse, transfer}
 use Rattle.spi_flash.specs.Wait.{firstWait, nextWait, u32Max, saturatingAdd}
@@ -211,7 +212,7 @@ through s (Task.PageProgram offset len done) e = refl
 through s (Task.Erase kind address end) e = refl
 
 -- a task begins with its write enable
-enables : (s : Setup) (task : Task) → context s task (sends s task) ≡ tree meaning (more (Transfer.Send writeEnableCommand) (place s (Phase.Writing task WriteStep.Enable 0)))
+enables : (s : Setup) (task : Task) → context s task (sends s task) ≡ tree meaning (more (commandOnly writeEnableCommand) (place s (Phase.Writing task WriteStep.Enable 0)))
 unfolding meaningAt write-enable latch _>>=_ _>>_
 enables s task = under s task _ _
 

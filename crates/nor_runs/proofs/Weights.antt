@@ -9,6 +9,7 @@ use borrow.Author.Tests.{ltb-false, eqb-true, not-false, le-ltb, le-leb}
 use Rattle.qspi.specs.Choice.{pick}
 use Rattle.qspi.specs.declared.command.Command.{Command}
 use Rattle.qspi.specs.declared.transfer.Sink.{Sink}
+use Rattle.qspi.specs.declared.transfer.Body.{Body}
 use Rattle.qspi.specs.declared.transfer.Transfer.{Transfer}
 use Rattle.spi_flash.specs.declared.error.FlashError.{FlashError}
 use Rattle.spi_flash.specs.Prog.{Prog, ret, _>>=_, _>>_, if_then_else_, refuse, transfer}
@@ -34,7 +35,7 @@ use Rattle.nor_runs.proofs.Loops.{reading-loop, writing-loop, chunk-tur
 
 -- figures for the transfers of the NOR, but for the raise of select
 pub record Weighs (w : Transfer → ℕ) (send moved fill : ℕ) (waits : Operation → ℕ) : Type 0 where
-  pub sent : (c : Command) → w (Transfer.Send c) ≤ send
+  pub sent : (c : Command) → w (Transfer.Framed c Body.None) ≤ send
   pub number : (c : Command) (n : ℕ) → w (numberTransfer c n) ≤ moved
   pub filled : (q : QuadSetting) (offset n at : ℕ) → w (readAt q offset n (Sink.Buffer at)) ≤ fill
   pub compared : (q : QuadSetting) (offset n from : ℕ) → w (readAt q offset n (Sink.Compare from)) ≤ moved
@@ -45,7 +46,7 @@ module _ {w : Transfer → ℕ} {send moved fill : ℕ} {waits : Operation → �
   bounded-number : (c : Command) (n : ℕ) → Bounded w moved (transfer (numberTransfer c n))
   bounded-number c n = bounded-more (figures .number c n) bounded-transfer
 
-  bounded-send : (c : Command) → Bounded w send (transfer (Transfer.Send c))
+  bounded-send : (c : Command) → Bounded w send (transfer (Transfer.Framed c Body.None))
   bounded-send c = bounded-more (figures .sent c) bounded-transfer
 
   pub bounded-status1 : Bounded w moved read-status1

@@ -5,6 +5,7 @@
 use Prim.Native.Nat.{ℕ, zero, suc, _+_, _-_}
 use mathlib.Core.Bool.{Bool, true, not}
 use lib.Dec.{ltb, eqb}
+use Rattle.qspi.specs.Transfer.{commandOnly}
 use Rattle.qspi.specs.declared.transfer.Sink.{Sink}
 use Rattle.qspi.specs.declared.transfer.Transfer.{Transfer}
 use Rattle.spi_flash.specs.Prog.{Prog, ret, fail, _>>=_, _>>_, if_then_else_, refuse, transfer}
@@ -57,7 +58,7 @@ wait-ready operation = promptWait readStatus1Command busyValue (timingsOf operat
 -- fn write_enable
 unfoldable pub write-enable : Prog Nothing
 write-enable = do
-  transfer (Transfer.Send writeEnableCommand)
+  transfer (commandOnly writeEnableCommand)
   status1 ← read-status1
   refuse (not (writeEnabledOf status1)) FlashError.WriteEnableFailed
 
@@ -65,14 +66,14 @@ write-enable = do
 unfoldable pub write-status1 : ℕ → Prog Nothing
 write-status1 value = do
   write-enable
-  transfer (Transfer.Send (writeStatus1Command value))
+  transfer (commandOnly (writeStatus1Command value))
   wait-ready Operation.StatusWrite
 
 -- fn write_status2
 unfoldable pub write-status2 : ℕ → Prog Nothing
 write-status2 value = do
   write-enable
-  transfer (Transfer.Send (writeStatus2Command value))
+  transfer (commandOnly (writeStatus2Command value))
   wait-ready Operation.StatusWrite
 
 -- fn jedec_id

@@ -1,5 +1,6 @@
 -- The steps that calls are made of (nor/driver.rs).
 use mathlib.Core.Bool.{Bool}
+use Rattle.qspi.specs.Transfer.{commandOnly}
 use Rattle.qspi.specs.Choice.{pick}
 use Rattle.qspi.specs.declared.transfer.Transfer.{Transfer}
 use Rattle.spi_flash.specs.declared.error.FlashError.{FlashError}
@@ -38,7 +39,7 @@ readUniqueIdThen setup phase = goTo setup (numberTransfer readUniqueIdCommand 8)
 
 -- write_enable: its command
 abbrev pub enabledThen : Setup → Task → Then
-enabledThen setup task = goTo setup (Transfer.Send writeEnableCommand) (Phase.Writing task WriteStep.Enable 0)
+enabledThen setup task = goTo setup (commandOnly writeEnableCommand) (Phase.Writing task WriteStep.Enable 0)
 
 -- enable_quad: `if .. { return Ok(()); }`
 abbrev pub doneIf : Bool → Setup → Then → Then

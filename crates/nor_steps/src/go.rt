@@ -76,7 +76,7 @@ pub fn enabled(setup: Setup, task: Task) -> Then
 {
     go(
         setup,
-        Transfer::Send(command::write_enable_command()),
+        qspi::transfer::command_only(command::write_enable_command()),
         Phase::Writing {
             task: task,
             at: WriteStep::Enable,

@@ -1,6 +1,7 @@
 pub mod Choice
 pub mod Bus
 pub mod Command
+pub mod Transfer
 pub mod Address
 pub mod Bytes
 pub mod Numbers

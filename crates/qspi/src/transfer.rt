@@ -1,5 +1,7 @@
 // One exchange with the chip: the Rust's command, command_then_read and the quad calls between cs_low and cs_high.
 use crate::command::Command;
+ghost use mathlib.Core.Path.{_≡_};
+ghost use Rattle.qspi.specs.Transfer.{commandOnly};
 
 // The bytes behind a command that writes.
 pub enum Payload {
@@ -21,29 +23,37 @@ pub enum Sink {
     Compare(usize),
 }
 
-pub enum Transfer {
-    // Select high alone, with which a construction begins.
-    Raise,
-    Pause(u32),
-    Send(Command),
+// What follows a command while select is low. The quad calls have the command with their data.
+pub enum Body {
+    None,
     Read {
-        command: Command,
         len: usize,
         sink: Sink,
     },
-    Write {
-        command: Command,
-        payload: Payload,
-    },
+    Write(Payload),
     QuadRead {
-        command: Command,
         tclqv_ns: u32,
         margin: u8,
         len: usize,
         sink: Sink,
     },
-    QuadWrite {
-        command: Command,
-        payload: Payload,
-    },
+    QuadWrite(Payload),
+}
+
+pub enum Transfer {
+    // Select high alone, with which a construction begins.
+    Raise,
+    Pause(u32),
+    // Select low, the command, its body, select high.
+    Framed { command: Command, body: Body },
+}
+
+// The Rust's `command`.
+pub fn command_only(command: Command) -> Transfer
+    ensures { λ r. ⌜ r ≡ commandOnly command ⌝ }
+{
+    Transfer::Framed {
+        command: command,
+        body: Body::None,
+    }
 }

@@ -13,6 +13,7 @@ use Rattle.frames.specs.Frame.{actionAt, startAction, sinkOf, valueOf, takenAt,
 use Rattle.qspi.specs.declared.bus.Awaits.{Awaits}
 use Rattle.qspi.specs.declared.bus.Reply.{Reply}
 use Rattle.qspi.specs.declared.transfer.Sink.{Sink}
+use Rattle.qspi.specs.declared.transfer.Body.{Body}
 use Rattle.qspi.specs.declared.transfer.Transfer.{Transfer}
 use Rattle.frames.specs.declared.frame.Stage.{Stage}
 use Rattle.frames.specs.declared.frame.Outcome.{Outcome}
@@ -32,18 +33,18 @@ abbrev pub Reached : Stage → Transfer → Type 0
 Reached Stage.Start t = Unit {0}
 Reached Stage.Command Transfer.Raise = ⊥
 Reached Stage.Command (Transfer.Pause us) = ⊥
-Reached Stage.Command (Transfer.Send c) = Unit {0}
-Reached Stage.Command (Transfer.Read c n sink) = Unit {0}
-Reached Stage.Command (Transfer.Write c payload) = Unit {0}
-Reached Stage.Command (Transfer.QuadRead c tclqv margin n sink) = ⊥
-Reached Stage.Command (Transfer.QuadWrite c payload) = ⊥
+Reached Stage.Command (Transfer.Framed c Body.None) = Unit {0}
+Reached Stage.Command (Transfer.Framed c (Body.Read n sink)) = Unit {0}
+Reached Stage.Command (Transfer.Framed c (Body.Write payload)) = Unit {0}
+Reached Stage.Command (Transfer.Framed c (Body.QuadRead tclqv margin n sink)) = ⊥
+Reached Stage.Command (Transfer.Framed c (Body.QuadWrite payload)) = ⊥
 Reached Stage.Payload Transfer.Raise = ⊥
 Reached Stage.Payload (Transfer.Pause us) = ⊥
-Reached Stage.Payload (Transfer.Send c) = ⊥
-Reached Stage.Payload (Transfer.Read c n sink) = Unit {0}
-Reached Stage.Payload (Transfer.Write c payload) = Unit {0}
-Reached Stage.Payload (Transfer.QuadRead c tclqv margin n sink) = Unit {0}
-Reached Stage.Payload (Transfer.QuadWrite c payload) = Unit {0}
+Reached Stage.Payload (Transfer.Framed c Body.None) = ⊥
+Reached Stage.Payload (Transfer.Framed c (Body.Read n sink)) = Unit {0}
+Reached Stage.Payload (Transfer.Framed c (Body.Write payload)) = Unit {0}
+Reached Stage.Payload (Transfer.Framed c (Body.QuadRead tclqv margin n sink)) = Unit {0}
+Reached Stage.Payload (Transfer.Framed c (Body.QuadWrite payload)) = Unit {0}
 Reached Stage.High t = Unit {0}
 
 -- nothing has come of the transfer before its last action
@@ -60,11 +61,11 @@ Proper stage t o = Reached stage t × Fresh stage o
 pub done-at-start : (t : Transfer) → awaitsOf (startAction t) ≡ Awaits.Done
 done-at-start Transfer.Raise = refl
 done-at-start (Transfer.Pause us) = refl
-done-at-start (Transfer.Send c) = refl
-done-at-start (Transfer.Read c n sink) = refl
-done-at-start (Transfer.Write c payload) = refl
-done-at-start (Transfer.QuadRead c tclqv margin n sink) = refl
-done-at-start (Transfer.QuadWrite c payload) = refl
+done-at-start (Transfer.Framed c Body.None) = refl
+done-at-start (Transfer.Framed c (Body.Read n sink)) = refl
+done-at-start (Transfer.Framed c (Body.Write payload)) = refl
+done-at-start (Transfer.Framed c (Body.QuadRead tclqv margin n sink)) = refl
+done-at-start (Transfer.Framed c (Body.QuadWrite payload)) = refl
 
 -- ---- what is left of a transfer behind the action that is out
 
@@ -87,30 +88,30 @@ module _ {A : Type 0} (given : List ℕ) (then : ℕ → BusProg A) where
   abbrev behindStart : Transfer → BusProg A
   behindStart Transfer.Raise = then 0
   behindStart (Transfer.Pause us) = then 0
-  behindStart (Transfer.Send c) = plainly (sending (write (commandBytes c)) >>= closes)
-  behindStart (Transfer.Read c n sink) = valued sink (sending (write (commandBytes c)) >>= (λ result. ifOk result (reading (read n) sink) >>= closes))
-  behindStart (Transfer.Write c payload) =
+  behindStart (Transfer.Framed c Body.None) = plainly (sending (write (commandBytes c)) >>= closes)
+  behindStart (Transfer.Framed c (Body.Read n sink)) = valued sink (sending (write (commandBytes c)) >>= (λ result. ifOk result (reading (read n) sink) >>= closes))
+  behindStart (Transfer.Framed c (Body.Write payload)) =
       plainly (sending (write (commandBytes c)) >>= (λ result. ifOk result (sending (write (payloadBytes payload given))) >>= closes))
-  behindStart (Transfer.QuadRead c tclqv margin n sink) = valued sink (reading (quadRead (commandBytes c) tclqv margin n) sink >>= closes)
-  behindStart (Transfer.QuadWrite c payload) = plainly (sending (quadWrite (commandBytes c) (payloadBytes payload given)) >>= closes)
+  behindStart (Transfer.Framed c (Body.QuadRead tclqv margin n sink)) = valued sink (reading (quadRead (commandBytes c) tclqv margin n) sink >>= closes)
+  behindStart (Transfer.Framed c (Body.QuadWrite payload)) = plainly (sending (quadWrite (commandBytes c) (payloadBytes payload given)) >>= closes)
 
   abbrev behindCommand : Transfer → Result → BusProg A
   behindCommand Transfer.Raise result = then 0
   behindCommand (Transfer.Pause us) result = then 0
-  behindCommand (Transfer.Send c) result = plainly (closes result)
-  behindCommand (Transfer.Read c n sink) result = valued sink (ifOk result (reading (read n) sink) >>= closes)
-  behindCommand (Transfer.Write c payload) result = plainly (ifOk result (sending (write (payloadBytes payload given))) >>= closes)
-  behindCommand (Transfer.QuadRead c tclqv margin n sink) result = then 0
-  behindCommand (Transfer.QuadWrite c payload) result = then 0
+  behindCommand (Transfer.Framed c Body.None) result = plainly (closes result)
+  behindCommand (Transfer.Framed c (Body.Read n sink)) result = valued sink (ifOk result (reading (read n) sink) >>= closes)
+  behindCommand (Transfer.Framed c (Body.Write payload)) result = plainly (ifOk result (sending (write (payloadBytes payload given))) >>= closes)
+  behindCommand (Transfer.Framed c (Body.QuadRead tclqv margin n sink)) result = then 0
+  behindCommand (Transfer.Framed c (Body.QuadWrite payload)) result = then 0
 
   abbrev behindPayload : Transfer → Result → BusProg A
   behindPayload Transfer.Raise result = then 0
   behindPayload (Transfer.Pause us) result = then 0
-  behindPayload (Transfer.Send c) result = then 0
-  behindPayload (Transfer.Read c n sink) result = valued sink (stored result sink >>= closes)
-  behindPayload (Transfer.Write c payload) result = plainly (closes result)
-  behindPayload (Transfer.QuadRead c tclqv margin n sink) result = valued sink (stored result sink >>= closes)
-  behindPayload (Transfer.QuadWrite c payload) result = plainly (closes result)
+  behindPayload (Transfer.Framed c Body.None) result = then 0
+  behindPayload (Transfer.Framed c (Body.Read n sink)) result = valued sink (stored result sink >>= closes)
+  behindPayload (Transfer.Framed c (Body.Write payload)) result = plainly (closes result)
+  behindPayload (Transfer.Framed c (Body.QuadRead tclqv margin n sink)) result = valued sink (stored result sink >>= closes)
+  behindPayload (Transfer.Framed c (Body.QuadWrite payload)) result = plainly (closes result)
 
   abbrev pub behind : Stage → Transfer → Outcome → Answer → BusProg A
   behind Stage.Start t o r = behindStart t
@@ -123,11 +124,11 @@ module _ {A : Type 0} (given : List ℕ) (then : ℕ → BusProg A) where
   unfolding onBus framed framedThen closes _>>=_ _>>_
   starts Transfer.Raise = refl
   starts (Transfer.Pause us) = refl
-  starts (Transfer.Send c) = refl
-  starts (Transfer.Read c n sink) = refl
-  starts (Transfer.Write c payload) = refl
-  starts (Transfer.QuadRead c tclqv margin n sink) = refl
-  starts (Transfer.QuadWrite c payload) = refl
+  starts (Transfer.Framed c Body.None) = refl
+  starts (Transfer.Framed c (Body.Read n sink)) = refl
+  starts (Transfer.Framed c (Body.Write payload)) = refl
+  starts (Transfer.Framed c (Body.QuadRead tclqv margin n sink)) = refl
+  starts (Transfer.Framed c (Body.QuadWrite payload)) = refl
 
   -- the frame goes on, or the transfer is over
   abbrev pub onward : Advanced → BusProg A
@@ -148,28 +149,28 @@ module _ {A : Type 0} (given : List ℕ) (then : ℕ → BusProg A) where
   unfolding onBus reading closes _>>=_ _>>_
   started Transfer.Raise bytes = record { proper = tt; same = λ rs b. refl }
   started (Transfer.Pause us) bytes = record { proper = tt; same = λ rs b. refl }
-  started (Transfer.Send c) bytes = record { proper = (tt, refl); same = λ rs b. refl }
-  started (Transfer.Read c n sink) bytes = record { proper = (tt, refl); same = λ rs b. refl }
-  started (Transfer.Write c payload) bytes = record { proper = (tt, refl); same = λ rs b. refl }
-  started (Transfer.QuadRead c tclqv margin n sink) bytes = record { proper = (tt, refl); same = λ rs b. refl }
-  started (Transfer.QuadWrite c payload) bytes = record { proper = (tt, refl); same = λ rs b. refl }
+  started (Transfer.Framed c Body.None) bytes = record { proper = (tt, refl); same = λ rs b. refl }
+  started (Transfer.Framed c (Body.Read n sink)) bytes = record { proper = (tt, refl); same = λ rs b. refl }
+  started (Transfer.Framed c (Body.Write payload)) bytes = record { proper = (tt, refl); same = λ rs b. refl }
+  started (Transfer.Framed c (Body.QuadRead tclqv margin n sink)) bytes = record { proper = (tt, refl); same = λ rs b. refl }
+  started (Transfer.Framed c (Body.QuadWrite payload)) bytes = record { proper = (tt, refl); same = λ rs b. refl }
 
   commanded : (t : Transfer) → Reached Stage.Command t → (r : Reply) (bytes : List ℕ) →
       fitsAt (awaitsOf (actionAt Stage.Command t)) r (length bytes) ≡ true → Follows Stage.Command t (Outcome.Value 0) r bytes
   unfolding reading closes _>>=_ _>>_
   commanded Transfer.Raise p r bytes fit = absurd p
   commanded (Transfer.Pause us) p r bytes fit = absurd p
-  commanded (Transfer.Send c) p Reply.Done bytes fit = record { proper = (tt, tt); same = λ rs b. refl }
-  commanded (Transfer.Send c) p Reply.Data bytes fit = absurd (false≢true fit)
-  commanded (Transfer.Send c) p (Reply.Error code) bytes fit = record { proper = (tt, tt); same = λ rs b. refl }
-  commanded (Transfer.Read c n sink) p Reply.Done bytes fit = record { proper = (tt, refl); same = λ rs b. refl }
-  commanded (Transfer.Read c n sink) p Reply.Data bytes fit = absurd (false≢true fit)
-  commanded (Transfer.Read c n sink) p (Reply.Error code) bytes fit = record { proper = (tt, tt); same = λ rs b. refl }
-  commanded (Transfer.Write c payload) p Reply.Done bytes fit = record { proper = (tt, refl); same = λ rs b. refl }
-  commanded (Transfer.Write c payload) p Reply.Data bytes fit = absurd (false≢true fit)
-  commanded (Transfer.Write c payload) p (Reply.Error code) bytes fit = record { proper = (tt, tt); same = λ rs b. refl }
-  commanded (Transfer.QuadRead c tclqv margin n sink) p r bytes fit = absurd p
-  commanded (Transfer.QuadWrite c payload) p r bytes fit = absurd p
+  commanded (Transfer.Framed c Body.None) p Reply.Done bytes fit = record { proper = (tt, tt); same = λ rs b. refl }
+  commanded (Transfer.Framed c Body.None) p Reply.Data bytes fit = absurd (false≢true fit)
+  commanded (Transfer.Framed c Body.None) p (Reply.Error code) bytes fit = record { proper = (tt, tt); same = λ rs b. refl }
+  commanded (Transfer.Framed c (Body.Read n sink)) p Reply.Done bytes fit = record { proper = (tt, refl); same = λ rs b. refl }
+  commanded (Transfer.Framed c (Body.Read n sink)) p Reply.Data bytes fit = absurd (false≢true fit)
+  commanded (Transfer.Framed c (Body.Read n sink)) p (Reply.Error code) bytes fit = record { proper = (tt, tt); same = λ rs b. refl }
+  commanded (Transfer.Framed c (Body.Write payload)) p Reply.Done bytes fit = record { proper = (tt, refl); same = λ rs b. refl }
+  commanded (Transfer.Framed c (Body.Write payload)) p Reply.Data bytes fit = absurd (false≢true fit)
+  commanded (Transfer.Framed c (Body.Write payload)) p (Reply.Error code) bytes fit = record { proper = (tt, tt); same = λ rs b. refl }
+  commanded (Transfer.Framed c (Body.QuadRead tclqv margin n sink)) p r bytes fit = absurd p
+  commanded (Transfer.Framed c (Body.QuadWrite payload)) p r bytes fit = absurd p
 
   -- bytes that were read, to each sink
   got : (sink : Sink) (bytes : List ℕ) (rs : List Answer) (buffer : List ℕ) → performed (valued sink (stored (ok bytes) sink >>= closes)) rs buffer ≡
@@ -184,19 +185,19 @@ module _ {A : Type 0} (given : List ℕ) (then : ℕ → BusProg A) where
   unfolding closes _>>=_ _>>_
   paid Transfer.Raise p r bytes fit = absurd p
   paid (Transfer.Pause us) p r bytes fit = absurd p
-  paid (Transfer.Send c) p r bytes fit = absurd p
-  paid (Transfer.Read c n sink) p Reply.Done bytes fit = absurd (false≢true fit)
-  paid (Transfer.Read c n sink) p Reply.Data bytes fit = record { proper = (tt, tt); same = λ rs b. got sink bytes rs b }
-  paid (Transfer.Read c n sink) p (Reply.Error code) bytes fit = record { proper = (tt, tt); same = λ rs b. refl }
-  paid (Transfer.Write c payload) p Reply.Done bytes fit = record { proper = (tt, tt); same = λ rs b. refl }
-  paid (Transfer.Write c payload) p Reply.Data bytes fit = absurd (false≢true fit)
-  paid (Transfer.Write c payload) p (Reply.Error code) bytes fit = record { proper = (tt, tt); same = λ rs b. refl }
-  paid (Transfer.QuadRead c tclqv margin n sink) p Reply.Done bytes fit = absurd (false≢true fit)
-  paid (Transfer.QuadRead c tclqv margin n sink) p Reply.Data bytes fit = record { proper = (tt, tt); same = λ rs b. got sink bytes rs b }
-  paid (Transfer.QuadRead c tclqv margin n sink) p (Reply.Error code) bytes fit = record { proper = (tt, tt); same = λ rs b. refl }
-  paid (Transfer.QuadWrite c payload) p Reply.Done bytes fit = record { proper = (tt, tt); same = λ rs b. refl }
-  paid (Transfer.QuadWrite c payload) p Reply.Data bytes fit = absurd (false≢true fit)
-  paid (Transfer.QuadWrite c payload) p (Reply.Error code) bytes fit = record { proper = (tt, tt); same = λ rs b. refl }
+  paid (Transfer.Framed c Body.None) p r bytes fit = absurd p
+  paid (Transfer.Framed c (Body.Read n sink)) p Reply.Done bytes fit = absurd (false≢true fit)
+  paid (Transfer.Framed c (Body.Read n sink)) p Reply.Data bytes fit = record { proper = (tt, tt); same = λ rs b. got sink bytes rs b }
+  paid (Transfer.Framed c (Body.Read n sink)) p (Reply.Error code) bytes fit = record { proper = (tt, tt); same = λ rs b. refl }
+  paid (Transfer.Framed c (Body.Write payload)) p Reply.Done bytes fit = record { proper = (tt, tt); same = λ rs b. refl }
+  paid (Transfer.Framed c (Body.Write payload)) p Reply.Data bytes fit = absurd (false≢true fit)
+  paid (Transfer.Framed c (Body.Write payload)) p (Reply.Error code) bytes fit = record { proper = (tt, tt); same = λ rs b. refl }
+  paid (Transfer.Framed c (Body.QuadRead tclqv margin n sink)) p Reply.Done bytes fit = absurd (false≢true fit)
+  paid (Transfer.Framed c (Body.QuadRead tclqv margin n sink)) p Reply.Data bytes fit = record { proper = (tt, tt); same = λ rs b. got sink bytes rs b }
+  paid (Transfer.Framed c (Body.QuadRead tclqv margin n sink)) p (Reply.Error code) bytes fit = record { proper = (tt, tt); same = λ rs b. refl }
+  paid (Transfer.Framed c (Body.QuadWrite payload)) p Reply.Done bytes fit = record { proper = (tt, tt); same = λ rs b. refl }
+  paid (Transfer.Framed c (Body.QuadWrite payload)) p Reply.Data bytes fit = absurd (false≢true fit)
+  paid (Transfer.Framed c (Body.QuadWrite payload)) p (Reply.Error code) bytes fit = record { proper = (tt, tt); same = λ rs b. refl }
 
   pub follows : (stage : Stage) (t : Transfer) (o : Outcome) → Proper stage t o → (r : Reply) (bytes : List ℕ) →
       fitsAt (awaitsOf (actionAt stage t)) r (length bytes) ≡ true → Follows stage t o r bytes

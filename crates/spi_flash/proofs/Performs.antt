@@ -13,6 +13,7 @@ use Rattle.frames.specs.ShownBytes.{startShown, shownAt}
 use Rattle.frames.specs.Frame.{firstOf, actionOf, sinkOf, takenAt, takenIn, frameAt, advancedAt, advancedOf, gave, exchangeOf}
 use Rattle.frames.proofs.Sent.{shown-bytes}
 use Rattle.qspi.specs.declared.bus.Reply.{Reply}
+use Rattle.qspi.specs.declared.transfer.Body.{Body}
 use Rattle.qspi.specs.declared.transfer.Transfer.{Transfer}
 use Rattle.frames.specs.declared.frame.Stage.{Stage}
 use Rattle.frames.specs.declared.frame.Outcome.{Outcome}
@@ -34,11 +35,7 @@ pub first-shown : (t : Transfer) (scratch lent : List ℕ) → shownOf (actionOf
 unfolding actionOf firstOf
 first-shown Transfer.Raise s l = refl
 first-shown (Transfer.Pause us) s l = refl
-first-shown (Transfer.Send c) s l = refl
-first-shown (Transfer.Read c n k) s l = refl
-first-shown (Transfer.Write c p) s l = refl
-first-shown (Transfer.QuadRead c q m n k) s l = refl
-first-shown (Transfer.QuadWrite c p) s l = refl
+first-shown (Transfer.Framed c body) s l = refl
 
 -- a step is taken only with a scratch that is long enough
 pub long-scratch : (k : Takes) (l : Lent) → readyFor k l ≡ true → scratchLeast ≤ length (l .scratch)

@@ -9,6 +9,7 @@ use borrow.Author.Tests.{eq-eqb}
 use Rattle.qspi.specs.Bus.{fitsOf}
 use Rattle.frames.specs.Frame.{firstOf, actionOf, exchangeOf, advancedOf, frameAt, valueOf}
 use Rattle.qspi.specs.declared.bus.Reply.{Reply}
+use Rattle.qspi.specs.declared.transfer.Body.{Body}
 use Rattle.qspi.specs.declared.transfer.Transfer.{Transfer}
 use Rattle.qspi.specs.declared.transfer.Sink.{Sink}
 use Rattle.frames.specs.declared.frame.Frame.{Frame}
@@ -112,22 +113,22 @@ module _ (C : Type 0) {S A : Type 0} (next : S → Outcome → Decision S A) (ta
   repliesTo : (t : Transfer) (v : ℕ) → Fits given t v → List Answer
   repliesTo Transfer.Raise v h = ok ∷ []
   repliesTo (Transfer.Pause us) v h = ok ∷ []
-  repliesTo (Transfer.Send c) v h = ok ∷ ok ∷ ok ∷ []
-  repliesTo (Transfer.Read c n sink) v h = ok ∷ ok ∷ got (h .bytes) ∷ ok ∷ []
-  repliesTo (Transfer.Write c p) v h = ok ∷ ok ∷ ok ∷ ok ∷ []
-  repliesTo (Transfer.QuadRead c q m n sink) v h = ok ∷ got (h .bytes) ∷ ok ∷ []
-  repliesTo (Transfer.QuadWrite c p) v h = ok ∷ ok ∷ ok ∷ []
+  repliesTo (Transfer.Framed c Body.None) v h = ok ∷ ok ∷ ok ∷ []
+  repliesTo (Transfer.Framed c (Body.Read n sink)) v h = ok ∷ ok ∷ got (h .bytes) ∷ ok ∷ []
+  repliesTo (Transfer.Framed c (Body.Write p)) v h = ok ∷ ok ∷ ok ∷ ok ∷ []
+  repliesTo (Transfer.Framed c (Body.QuadRead q m n sink)) v h = ok ∷ got (h .bytes) ∷ ok ∷ []
+  repliesTo (Transfer.Framed c (Body.QuadWrite p)) v h = ok ∷ ok ∷ ok ∷ []
 
   -- they are replies that a host can give
   replies-real : (t : Transfer) (v : ℕ) (h : Fits given t v) (rs : List Answer) → RealReplies rs → RealReplies (repliesTo t v h ++ rs)
   unfolding repliesTo ok got
   replies-real Transfer.Raise v h rs r = (tt, r)
   replies-real (Transfer.Pause us) v h rs r = (tt, r)
-  replies-real (Transfer.Send c) v h rs r = (tt, (tt, (tt, r)))
-  replies-real (Transfer.Read c n sink) v h rs r = (tt, (tt, (h .small, (tt, r))))
-  replies-real (Transfer.Write c p) v h rs r = (tt, (tt, (tt, (tt, r))))
-  replies-real (Transfer.QuadRead c q m n sink) v h rs r = (tt, (h .small, (tt, r)))
-  replies-real (Transfer.QuadWrite c p) v h rs r = (tt, (tt, (tt, r)))
+  replies-real (Transfer.Framed c Body.None) v h rs r = (tt, (tt, (tt, r)))
+  replies-real (Transfer.Framed c (Body.Read n sink)) v h rs r = (tt, (tt, (h .small, (tt, r))))
+  replies-real (Transfer.Framed c (Body.Write p)) v h rs r = (tt, (tt, (tt, (tt, r))))
+  replies-real (Transfer.Framed c (Body.QuadRead q m n sink)) v h rs r = (tt, (h .small, (tt, r)))
+  replies-real (Transfer.Framed c (Body.QuadWrite p)) v h rs r = (tt, (tt, (tt, r)))
 
   module _ (s : S) (Q : List Past → End A → Type 0) (rs : List Answer) where
     -- the transfer's value is v, and the call goes on to Q
@@ -163,26 +164,26 @@ module _ (C : Type 0) {S A : Type 0} (next : S → Outcome → Decision S A) (ta
     unfolding firstOf fitsOf actionOf advancedOf ok repliesTo at
     transferred Transfer.Raise v h d = overs s (firstOf Transfer.Raise) Q ok rs (Outcome.Value 0) refl refl (subst (GoesOn Transfer.Raise) h d)
     transferred (Transfer.Pause us) v h d = overs s (firstOf (Transfer.Pause us)) Q ok rs (Outcome.Value 0) refl refl (subst (GoesOn (Transfer.Pause us)) h d)
-    transferred (Transfer.Send c) v h d =
-        onwards (Transfer.Send c) Stage.Start Stage.Command _ refl refl
-        (onwards (Transfer.Send c) Stage.Command Stage.High _ refl refl
-        (high (Transfer.Send c) 0 v h d))
-    transferred (Transfer.Read c n sink) v h d =
-        onwards (Transfer.Read c n sink) Stage.Start Stage.Command _ refl refl
-        (onwards (Transfer.Read c n sink) Stage.Command Stage.Payload _ refl refl
-        (data-read (Transfer.Read c n sink) n sink v h (eq-eqb _ _ (h .size)) refl d))
-    transferred (Transfer.Write c p) v h d =
-        onwards (Transfer.Write c p) Stage.Start Stage.Command _ refl refl
-        (onwards (Transfer.Write c p) Stage.Command Stage.Payload _ refl refl
-        (onwards (Transfer.Write c p) Stage.Payload Stage.High _ refl refl
-        (high (Transfer.Write c p) 0 v h d)))
-    transferred (Transfer.QuadRead c q m n sink) v h d =
-        onwards (Transfer.QuadRead c q m n sink) Stage.Start Stage.Payload _ refl refl
-        (data-read (Transfer.QuadRead c q m n sink) n sink v h (eq-eqb _ _ (h .size)) refl d)
-    transferred (Transfer.QuadWrite c p) v h d =
-        onwards (Transfer.QuadWrite c p) Stage.Start Stage.Payload _ refl refl
-        (onwards (Transfer.QuadWrite c p) Stage.Payload Stage.High _ refl refl
-        (high (Transfer.QuadWrite c p) 0 v h d))
+    transferred (Transfer.Framed c Body.None) v h d =
+        onwards (Transfer.Framed c Body.None) Stage.Start Stage.Command _ refl refl
+        (onwards (Transfer.Framed c Body.None) Stage.Command Stage.High _ refl refl
+        (high (Transfer.Framed c Body.None) 0 v h d))
+    transferred (Transfer.Framed c (Body.Read n sink)) v h d =
+        onwards (Transfer.Framed c (Body.Read n sink)) Stage.Start Stage.Command _ refl refl
+        (onwards (Transfer.Framed c (Body.Read n sink)) Stage.Command Stage.Payload _ refl refl
+        (data-read (Transfer.Framed c (Body.Read n sink)) n sink v h (eq-eqb _ _ (h .size)) refl d))
+    transferred (Transfer.Framed c (Body.Write p)) v h d =
+        onwards (Transfer.Framed c (Body.Write p)) Stage.Start Stage.Command _ refl refl
+        (onwards (Transfer.Framed c (Body.Write p)) Stage.Command Stage.Payload _ refl refl
+        (onwards (Transfer.Framed c (Body.Write p)) Stage.Payload Stage.High _ refl refl
+        (high (Transfer.Framed c (Body.Write p)) 0 v h d)))
+    transferred (Transfer.Framed c (Body.QuadRead q m n sink)) v h d =
+        onwards (Transfer.Framed c (Body.QuadRead q m n sink)) Stage.Start Stage.Payload _ refl refl
+        (data-read (Transfer.Framed c (Body.QuadRead q m n sink)) n sink v h (eq-eqb _ _ (h .size)) refl d)
+    transferred (Transfer.Framed c (Body.QuadWrite p)) v h d =
+        onwards (Transfer.Framed c (Body.QuadWrite p)) Stage.Start Stage.Payload _ refl refl
+        (onwards (Transfer.Framed c (Body.QuadWrite p)) Stage.Payload Stage.High _ refl refl
+        (high (Transfer.Framed c (Body.QuadWrite p)) 0 v h d))
 
   module _ (Valid : S → Type 0) (meaning : S → ℕ → Prog A) (sim : Simulates Valid next meaning) where
     -- the replies of a whole path

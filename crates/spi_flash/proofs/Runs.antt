@@ -12,6 +12,7 @@ use Rattle.qspi.specs.Bus.{awaitsOf, fitsAt, fitsOf}
 use Rattle.qspi.specs.Shown.{shownOf, delayOf}
 use Rattle.frames.specs.Frame.{firstOf, actionOf, actionAt, commandAction, payloadAction, exchangedTo, exchangeOf, advancedOf, advancedAt, frameAt, movedOn, nextStage, gave, takenIn}
 use Rattle.qspi.specs.declared.bus.Reply.{Reply}
+use Rattle.qspi.specs.declared.transfer.Body.{Body}
 use Rattle.qspi.specs.declared.transfer.Transfer.{Transfer}
 use Rattle.frames.specs.declared.frame.Frame.{Frame}
 use Rattle.frames.specs.declared.frame.Stage.{Stage}
@@ -36,11 +37,11 @@ abbrev remainingAt : Stage → Transfer → ℕ
 remainingAt Stage.Start t = actions t
 remainingAt Stage.Command Transfer.Raise = 2
 remainingAt Stage.Command (Transfer.Pause us) = 2
-remainingAt Stage.Command (Transfer.Send c) = 2
-remainingAt Stage.Command (Transfer.Read c n k) = 3
-remainingAt Stage.Command (Transfer.Write c p) = 3
-remainingAt Stage.Command (Transfer.QuadRead c q m n k) = 2
-remainingAt Stage.Command (Transfer.QuadWrite c p) = 2
+remainingAt Stage.Command (Transfer.Framed c Body.None) = 2
+remainingAt Stage.Command (Transfer.Framed c (Body.Read n k)) = 3
+remainingAt Stage.Command (Transfer.Framed c (Body.Write p)) = 3
+remainingAt Stage.Command (Transfer.Framed c (Body.QuadRead q m n k)) = 2
+remainingAt Stage.Command (Transfer.Framed c (Body.QuadWrite p)) = 2
 remainingAt Stage.Payload t = 2
 remainingAt Stage.High t = 1
 
@@ -51,11 +52,7 @@ remaining f = remainingAt (f .stage) (f .transfer)
 abbrev pub Last : Stage → Transfer → Type 0
 Last Stage.Start Transfer.Raise = Unit {0}
 Last Stage.Start (Transfer.Pause us) = Unit {0}
-Last Stage.Start (Transfer.Send c) = ⊥
-Last Stage.Start (Transfer.Read c n k) = ⊥
-Last Stage.Start (Transfer.Write c p) = ⊥
-Last Stage.Start (Transfer.QuadRead c q m n k) = ⊥
-Last Stage.Start (Transfer.QuadWrite c p) = ⊥
+Last Stage.Start (Transfer.Framed c body) = ⊥
 Last Stage.Command t = ⊥
 Last Stage.Payload t = ⊥
 Last Stage.High t = Unit {0}
@@ -76,20 +73,20 @@ pub record Goes (f g : Frame) : Type 0 where
 command-quiet : (t : Transfer) (scratch lent : List ℕ) → delayOf (shownOf (commandAction t) scratch lent) ≡ 0
 command-quiet Transfer.Raise s l = refl
 command-quiet (Transfer.Pause us) s l = refl
-command-quiet (Transfer.Send c) s l = refl
-command-quiet (Transfer.Read c n k) s l = refl
-command-quiet (Transfer.Write c p) s l = refl
-command-quiet (Transfer.QuadRead c q m n k) s l = refl
-command-quiet (Transfer.QuadWrite c p) s l = refl
+command-quiet (Transfer.Framed c Body.None) s l = refl
+command-quiet (Transfer.Framed c (Body.Read n k)) s l = refl
+command-quiet (Transfer.Framed c (Body.Write p)) s l = refl
+command-quiet (Transfer.Framed c (Body.QuadRead q m n k)) s l = refl
+command-quiet (Transfer.Framed c (Body.QuadWrite p)) s l = refl
 
 payload-quiet : (t : Transfer) (scratch lent : List ℕ) → delayOf (shownOf (payloadAction t) scratch lent) ≡ 0
 payload-quiet Transfer.Raise s l = refl
 payload-quiet (Transfer.Pause us) s l = refl
-payload-quiet (Transfer.Send c) s l = refl
-payload-quiet (Transfer.Read c n k) s l = refl
-payload-quiet (Transfer.Write c p) s l = refl
-payload-quiet (Transfer.QuadRead c q m n k) s l = refl
-payload-quiet (Transfer.QuadWrite c p) s l = refl
+payload-quiet (Transfer.Framed c Body.None) s l = refl
+payload-quiet (Transfer.Framed c (Body.Read n k)) s l = refl
+payload-quiet (Transfer.Framed c (Body.Write p)) s l = refl
+payload-quiet (Transfer.Framed c (Body.QuadRead q m n k)) s l = refl
+payload-quiet (Transfer.Framed c (Body.QuadWrite p)) s l = refl
 
 -- a stage leads on to a later one
 abbrev Later : Stage → Transfer → Following → Type 0
@@ -102,18 +99,18 @@ Later stage t Following.Over = Last stage t
 onward : (t : Transfer) (stage : Stage) → Later stage t (nextStage t stage)
 onward Transfer.Raise Stage.Start = tt
 onward (Transfer.Pause us) Stage.Start = tt
-onward (Transfer.Send c) Stage.Start = lit< tt
-onward (Transfer.Read c n k) Stage.Start = lit< tt
-onward (Transfer.Write c p) Stage.Start = lit< tt
-onward (Transfer.QuadRead c q m n k) Stage.Start = lit< tt
-onward (Transfer.QuadWrite c p) Stage.Start = lit< tt
+onward (Transfer.Framed c Body.None) Stage.Start = lit< tt
+onward (Transfer.Framed c (Body.Read n k)) Stage.Start = lit< tt
+onward (Transfer.Framed c (Body.Write p)) Stage.Start = lit< tt
+onward (Transfer.Framed c (Body.QuadRead q m n k)) Stage.Start = lit< tt
+onward (Transfer.Framed c (Body.QuadWrite p)) Stage.Start = lit< tt
 onward Transfer.Raise Stage.Command = lit< tt
 onward (Transfer.Pause us) Stage.Command = lit< tt
-onward (Transfer.Send c) Stage.Command = lit< tt
-onward (Transfer.Read c n k) Stage.Command = lit< tt
-onward (Transfer.Write c p) Stage.Command = lit< tt
-onward (Transfer.QuadRead c q m n k) Stage.Command = lit< tt
-onward (Transfer.QuadWrite c p) Stage.Command = lit< tt
+onward (Transfer.Framed c Body.None) Stage.Command = lit< tt
+onward (Transfer.Framed c (Body.Read n k)) Stage.Command = lit< tt
+onward (Transfer.Framed c (Body.Write p)) Stage.Command = lit< tt
+onward (Transfer.Framed c (Body.QuadRead q m n k)) Stage.Command = lit< tt
+onward (Transfer.Framed c (Body.QuadWrite p)) Stage.Command = lit< tt
 onward t Stage.Payload = lit< tt
 onward t Stage.High = tt
 
@@ -121,18 +118,18 @@ onward t Stage.High = tt
 error-onward : (t : Transfer) (stage : Stage) (code n : ℕ) → fitsAt (awaitsOf (actionAt stage t)) (Reply.Error code) n ≡ true → 1 < remainingAt stage t
 error-onward Transfer.Raise Stage.Start code n h = absurd (false≢true h)
 error-onward (Transfer.Pause us) Stage.Start code n h = absurd (false≢true h)
-error-onward (Transfer.Send c) Stage.Start code n h = lit< tt
-error-onward (Transfer.Read c m k) Stage.Start code n h = lit< tt
-error-onward (Transfer.Write c p) Stage.Start code n h = lit< tt
-error-onward (Transfer.QuadRead c q m i k) Stage.Start code n h = lit< tt
-error-onward (Transfer.QuadWrite c p) Stage.Start code n h = lit< tt
+error-onward (Transfer.Framed c Body.None) Stage.Start code n h = lit< tt
+error-onward (Transfer.Framed c (Body.Read m k)) Stage.Start code n h = lit< tt
+error-onward (Transfer.Framed c (Body.Write p)) Stage.Start code n h = lit< tt
+error-onward (Transfer.Framed c (Body.QuadRead q m i k)) Stage.Start code n h = lit< tt
+error-onward (Transfer.Framed c (Body.QuadWrite p)) Stage.Start code n h = lit< tt
 error-onward Transfer.Raise Stage.Command code n h = lit< tt
 error-onward (Transfer.Pause us) Stage.Command code n h = lit< tt
-error-onward (Transfer.Send c) Stage.Command code n h = lit< tt
-error-onward (Transfer.Read c m k) Stage.Command code n h = lit< tt
-error-onward (Transfer.Write c p) Stage.Command code n h = lit< tt
-error-onward (Transfer.QuadRead c q m i k) Stage.Command code n h = lit< tt
-error-onward (Transfer.QuadWrite c p) Stage.Command code n h = lit< tt
+error-onward (Transfer.Framed c Body.None) Stage.Command code n h = lit< tt
+error-onward (Transfer.Framed c (Body.Read m k)) Stage.Command code n h = lit< tt
+error-onward (Transfer.Framed c (Body.Write p)) Stage.Command code n h = lit< tt
+error-onward (Transfer.Framed c (Body.QuadRead q m i k)) Stage.Command code n h = lit< tt
+error-onward (Transfer.Framed c (Body.QuadWrite p)) Stage.Command code n h = lit< tt
 error-onward t Stage.Payload code n h = lit< tt
 error-onward t Stage.High code n h = absurd (false≢true h)
 
@@ -206,11 +203,7 @@ pub first-delay : (t : Transfer) (scratch lent : List ℕ) → delayOf (shownOf 
 unfolding actionOf firstOf
 first-delay Transfer.Raise s l = refl
 first-delay (Transfer.Pause us) s l = refl
-first-delay (Transfer.Send c) s l = refl
-first-delay (Transfer.Read c n k) s l = refl
-first-delay (Transfer.Write c p) s l = refl
-first-delay (Transfer.QuadRead c q m n k) s l = refl
-first-delay (Transfer.QuadWrite c p) s l = refl
+first-delay (Transfer.Framed c body) s l = refl
 
 module _ {S A C : Type 0} (next : S → Outcome → Decision S A) (k : Takes) where
   -- after the end nothing is given out
@@ -261,18 +254,18 @@ module _ {S A C : Type 0} (Valid : S → Type 0) (next : S → Outcome → Decis
 remaining-some : (stage : Stage) (t : Transfer) → 0 < remainingAt stage t
 remaining-some Stage.Start Transfer.Raise = lit< tt
 remaining-some Stage.Start (Transfer.Pause us) = lit< tt
-remaining-some Stage.Start (Transfer.Send c) = lit< tt
-remaining-some Stage.Start (Transfer.Read c n k) = lit< tt
-remaining-some Stage.Start (Transfer.Write c p) = lit< tt
-remaining-some Stage.Start (Transfer.QuadRead c q m n k) = lit< tt
-remaining-some Stage.Start (Transfer.QuadWrite c p) = lit< tt
+remaining-some Stage.Start (Transfer.Framed c Body.None) = lit< tt
+remaining-some Stage.Start (Transfer.Framed c (Body.Read m k)) = lit< tt
+remaining-some Stage.Start (Transfer.Framed c (Body.Write p)) = lit< tt
+remaining-some Stage.Start (Transfer.Framed c (Body.QuadRead q m i k)) = lit< tt
+remaining-some Stage.Start (Transfer.Framed c (Body.QuadWrite p)) = lit< tt
 remaining-some Stage.Command Transfer.Raise = lit< tt
 remaining-some Stage.Command (Transfer.Pause us) = lit< tt
-remaining-some Stage.Command (Transfer.Send c) = lit< tt
-remaining-some Stage.Command (Transfer.Read c n k) = lit< tt
-remaining-some Stage.Command (Transfer.Write c p) = lit< tt
-remaining-some Stage.Command (Transfer.QuadRead c q m n k) = lit< tt
-remaining-some Stage.Command (Transfer.QuadWrite c p) = lit< tt
+remaining-some Stage.Command (Transfer.Framed c Body.None) = lit< tt
+remaining-some Stage.Command (Transfer.Framed c (Body.Read n k)) = lit< tt
+remaining-some Stage.Command (Transfer.Framed c (Body.Write p)) = lit< tt
+remaining-some Stage.Command (Transfer.Framed c (Body.QuadRead q m n k)) = lit< tt
+remaining-some Stage.Command (Transfer.Framed c (Body.QuadWrite p)) = lit< tt
 remaining-some Stage.Payload t = lit< tt
 remaining-some Stage.High t = lit< tt
 

@@ -5,6 +5,7 @@ use mathlib.Core.Path.{_≡_, refl}
 use mathlib.Core.List.{List, [], _∷_}
 use Rattle.qspi.specs.Shown.{shownOf}
 use Rattle.frames.specs.Frame.{firstOf, actionOf, exchangeOf}
+use Rattle.qspi.specs.declared.transfer.Body.{Body}
 use Rattle.qspi.specs.declared.transfer.Transfer.{Transfer}
 use Rattle.frames.specs.declared.frame.Stage.{Stage}
 use Rattle.frames.specs.declared.frame.Outcome.{Outcome}
@@ -25,11 +26,7 @@ pub first-raised : (t : Transfer) (scratch lent : List ℕ) → Raised Stage.Sta
 unfolding actionOf firstOf
 first-raised Transfer.Raise scratch lent c = refl
 first-raised (Transfer.Pause us) scratch lent c = refl
-first-raised (Transfer.Send c) scratch lent h = absurd h
-first-raised (Transfer.Read c n k) scratch lent h = absurd h
-first-raised (Transfer.Write c p) scratch lent h = absurd h
-first-raised (Transfer.QuadRead c q m n k) scratch lent h = absurd h
-first-raised (Transfer.QuadWrite c p) scratch lent h = absurd h
+first-raised (Transfer.Framed c body) scratch lent h = absurd h
 
 later-raised : (stage : Stage) (t : Transfer) (o : Outcome) (scratch lent : List ℕ) (select : Bool) → Begun stage →
     Raised stage t (selectAfter (shownOf (actionOf (record { transfer = t; stage = stage; outcome = o })) scratch lent) select)

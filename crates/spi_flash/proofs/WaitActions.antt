@@ -5,6 +5,7 @@ use mathlib.Core.Bool.{Bool}
 use mathlib.Core.Path.{_≡_, refl, subst}
 use mathlib.Core.List.{List}
 use Rattle.qspi.specs.declared.command.Command.{Command}
+use Rattle.qspi.specs.declared.transfer.Body.{Body}
 use Rattle.qspi.specs.declared.transfer.Transfer.{Transfer}
 use Rattle.spi_flash.specs.declared.wait.Timings.{Timings}
 use Rattle.spi_flash.specs.Prog.{Prog, ret, fail, ask, _>>=_, _>>_, transfer}
@@ -15,20 +16,20 @@ use Rattle.spi_flash.proofs.Laws.{every-mono, every-both, bounded-more,
 looked : (t : Transfer) (P : Type 0) → OnlyLook (waitStep t) P → (actions t ≡ 4) × (lookWeight t ≡ 1) × P
 looked Transfer.Raise P h = absurd h
 looked (Transfer.Pause us) P h = absurd h
-looked (Transfer.Send c) P h = absurd h
-looked (Transfer.Read c n sink) P h = (refl, refl, h)
-looked (Transfer.Write c payload) P h = absurd h
-looked (Transfer.QuadRead c tclqv margin n sink) P h = absurd h
-looked (Transfer.QuadWrite c payload) P h = absurd h
+looked (Transfer.Framed c Body.None) P h = absurd h
+looked (Transfer.Framed c (Body.Read n sink)) P h = (refl, refl, h)
+looked (Transfer.Framed c (Body.Write payload)) P h = absurd h
+looked (Transfer.Framed c (Body.QuadRead tclqv margin n sink)) P h = absurd h
+looked (Transfer.Framed c (Body.QuadWrite payload)) P h = absurd h
 
 paused : (t : Transfer) (P : ℕ → Type 0) → OnlyPause (waitStep t) P → (actions t ≡ 1) × (lookWeight t ≡ 0) × P (delays t)
 paused Transfer.Raise P h = absurd h
 paused (Transfer.Pause us) P h = (refl, refl, h)
-paused (Transfer.Send c) P h = absurd h
-paused (Transfer.Read c n sink) P h = absurd h
-paused (Transfer.Write c payload) P h = absurd h
-paused (Transfer.QuadRead c tclqv margin n sink) P h = absurd h
-paused (Transfer.QuadWrite c payload) P h = absurd h
+paused (Transfer.Framed c Body.None) P h = absurd h
+paused (Transfer.Framed c (Body.Read n sink)) P h = absurd h
+paused (Transfer.Framed c (Body.Write payload)) P h = absurd h
+paused (Transfer.Framed c (Body.QuadRead tclqv margin n sink)) P h = absurd h
+paused (Transfer.Framed c (Body.QuadWrite payload)) P h = absurd h
 
 abbrev Counted : Turn → List Past → End (Unit {0}) → Type 0
 Counted looking past end = asked actions past end ≤ 5 * asked lookWeight past end

@@ -9,6 +9,7 @@ use borrow.Author.Tests.{le-leb, lt-leb, leb-false}
 use lib.Dec.{leb, lit<}
 use Rattle.qspi.specs.declared.command.Command.{Command}
 use Rattle.qspi.specs.declared.transfer.Sink.{Sink}
+use Rattle.qspi.specs.declared.transfer.Body.{Body}
 use Rattle.qspi.specs.declared.transfer.Transfer.{Transfer}
 use Rattle.spi_flash.specs.declared.error.FlashError.{FlashError}
 use Rattle.spi_flash.specs.declared.wait.Timings.{Timings}
@@ -103,21 +104,21 @@ module _ (status : Command) (busy : ℕ → Bool) where
 
   module _ (w : Transfer → ℕ) (poll : ℕ) where
     abbrev each : ℕ
-    each = w (Transfer.Pause poll) + w (Transfer.Read status 1 Sink.Number)
+    each = w (Transfer.Pause poll) + w (Transfer.Framed status (Body.Read 1 Sink.Number))
 
-    bounded-polls : (k : ℕ) → Bounded w (k * each + w (Transfer.Read status 1 Sink.Number)) (polls k poll)
+    bounded-polls : (k : ℕ) → Bounded w (k * each + w (Transfer.Framed status (Body.Read 1 Sink.Number))) (polls k poll)
     unfolding polls _>>=_ _>>_
     bounded-polls zero = bounded-more (omega arith) (bounded-ask (λ s. bounded-if (not (busy s)) bounded-ret (bounded-fail {b = 0})))
     bounded-polls (suc k) =
         bounded-more (omega arith) (bounded-ask (λ s. bounded-if (not (busy s)) bounded-ret (bounded-then bounded-transfer (bounded-polls k))))
 
     -- busy k times, and then ready
-    ends-polls : (given : List ℕ) → busy 0 ≡ false → busy 1 ≡ true → (k : ℕ) → Ends given w (k * each + w (Transfer.Read status 1 Sink.Number)) tt (polls k poll)
+    ends-polls : (given : List ℕ) → busy 0 ≡ false → busy 1 ≡ true → (k : ℕ) → Ends given w (k * each + w (Transfer.Framed status (Body.Read 1 Sink.Number))) tt (polls k poll)
     unfolding polls _>>=_ _>>_
     ends-polls given ready waits zero = ends-eq (omega arith) (ends-ask _ {b = 0} 0 (byte given 0 (lit< tt)) (rw ready ends-ret))
     ends-polls given ready waits (suc k) =
         ends-eq (omega arith)
-        (ends-ask _ {b = w (Transfer.Pause poll) + (k * each + w (Transfer.Read status 1 Sink.Number))} 1 (byte given 1 (lit< tt))
+        (ends-ask _ {b = w (Transfer.Pause poll) + (k * each + w (Transfer.Framed status (Body.Read 1 Sink.Number)))} 1 (byte given 1 (lit< tt))
         (rw waits (ends-then (ends-transfer 0 refl) (ends-polls given ready waits k))))
 
   -- ---- the turns of a wait

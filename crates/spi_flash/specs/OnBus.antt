@@ -9,6 +9,7 @@ use Rattle.qspi.specs.Shown.{Shown, low, high, write, read, quadRead, quadWrite
 use Rattle.frames.specs.ShownBytes.{payloadBytes}
 use Rattle.qspi.specs.declared.bus.Reply.{Reply}
 use Rattle.qspi.specs.declared.transfer.Sink.{Sink}
+use Rattle.qspi.specs.declared.transfer.Body.{Body}
 use Rattle.qspi.specs.declared.transfer.Transfer.{Transfer}
 use Rattle.spi_flash.specs.declared.error.FlashError.{FlashError}
 use Rattle.spi_flash.specs.Prog.{Prog, ret, fail, ask}
@@ -101,15 +102,15 @@ framedThen command call = do
 unfoldable pub onBus : List ℕ → Transfer → BusProg ℕ
 onBus given Transfer.Raise = plain high >> answers 0
 onBus given (Transfer.Pause us) = plain (delay us) >> answers 0
-onBus given (Transfer.Send c) = framed (sending (write (commandBytes c))) >> answers 0
-onBus given (Transfer.Read c n sink) = do
+onBus given (Transfer.Framed c Body.None) = framed (sending (write (commandBytes c))) >> answers 0
+onBus given (Transfer.Framed c (Body.Read n sink)) = do
   bytes ← framedThen (commandBytes c) (reading (read n) sink)
   answers (valueOf sink bytes given)
-onBus given (Transfer.Write c payload) = framedThen (commandBytes c) (sending (write (payloadBytes payload given))) >> answers 0
-onBus given (Transfer.QuadRead c tclqv margin n sink) = do
+onBus given (Transfer.Framed c (Body.Write payload)) = framedThen (commandBytes c) (sending (write (payloadBytes payload given))) >> answers 0
+onBus given (Transfer.Framed c (Body.QuadRead tclqv margin n sink)) = do
   bytes ← framed (reading (quadRead (commandBytes c) tclqv margin n) sink)
   answers (valueOf sink bytes given)
-onBus given (Transfer.QuadWrite c payload) = framed (sending (quadWrite (commandBytes c) (payloadBytes payload given))) >> answers 0
+onBus given (Transfer.Framed c (Body.QuadWrite payload)) = framed (sending (quadWrite (commandBytes c) (payloadBytes payload given))) >> answers 0
 
 -- a whole program
 unfoldable pub programOnBus : {A : Type 0} → List ℕ → Prog A → BusProg A

@@ -5,6 +5,7 @@ use mathlib.Core.List.{List, [], _∷_, _++_}
 use lib.ListN.{length}
 use Rattle.qspi.specs.Bytes.{AllBytes}
 use Rattle.frames.specs.Frame.{valueOf}
+use Rattle.qspi.specs.declared.transfer.Body.{Body}
 use Rattle.qspi.specs.declared.transfer.Transfer.{Transfer}
 use Rattle.qspi.specs.declared.transfer.Sink.{Sink}
 use Rattle.frames.specs.declared.frame.Outcome.{Outcome}
@@ -36,11 +37,11 @@ pub record Answers (given : List ℕ) (n : ℕ) (sink : Sink) (v : ℕ) : Type 0
 abbrev pub Fits : List ℕ → Transfer → ℕ → Type 0
 Fits given Transfer.Raise v = v ≡ 0
 Fits given (Transfer.Pause us) v = v ≡ 0
-Fits given (Transfer.Send c) v = v ≡ 0
-Fits given (Transfer.Read c n sink) v = Answers given n sink v
-Fits given (Transfer.Write c payload) v = v ≡ 0
-Fits given (Transfer.QuadRead c tclqv margin n sink) v = Answers given n sink v
-Fits given (Transfer.QuadWrite c payload) v = v ≡ 0
+Fits given (Transfer.Framed c Body.None) v = v ≡ 0
+Fits given (Transfer.Framed c (Body.Read n sink)) v = Answers given n sink v
+Fits given (Transfer.Framed c (Body.Write payload)) v = v ≡ 0
+Fits given (Transfer.Framed c (Body.QuadRead tclqv margin n sink)) v = Answers given n sink v
+Fits given (Transfer.Framed c (Body.QuadWrite payload)) v = v ≡ 0
 
 -- ---- over the paths
 
@@ -78,21 +79,17 @@ asked weight past end = spent weight past + underway weight end
 abbrev pub delays : Transfer → ℕ
 delays Transfer.Raise = 0
 delays (Transfer.Pause us) = us
-delays (Transfer.Send c) = 0
-delays (Transfer.Read c n sink) = 0
-delays (Transfer.Write c payload) = 0
-delays (Transfer.QuadRead c tclqv margin n sink) = 0
-delays (Transfer.QuadWrite c payload) = 0
+delays (Transfer.Framed c body) = 0
 
 -- the actions of a transfer
 abbrev pub actions : Transfer → ℕ
 actions Transfer.Raise = 1
 actions (Transfer.Pause us) = 1
-actions (Transfer.Send c) = 3
-actions (Transfer.Read c n sink) = 4
-actions (Transfer.Write c payload) = 4
-actions (Transfer.QuadRead c tclqv margin n sink) = 3
-actions (Transfer.QuadWrite c payload) = 3
+actions (Transfer.Framed c Body.None) = 3
+actions (Transfer.Framed c (Body.Read n sink)) = 4
+actions (Transfer.Framed c (Body.Write payload)) = 4
+actions (Transfer.Framed c (Body.QuadRead tclqv margin n sink)) = 3
+actions (Transfer.Framed c (Body.QuadWrite payload)) = 3
 
 -- ---- ends and beginnings
 

@@ -7,6 +7,7 @@ use mathlib.Core.List.{List, [], _∷_}
 use lib.Dec.{leb}
 use Rattle.qspi.specs.declared.command.Command.{Command}
 use Rattle.qspi.specs.declared.transfer.Sink.{Sink}
+use Rattle.qspi.specs.declared.transfer.Body.{Body}
 use Rattle.qspi.specs.declared.transfer.Transfer.{Transfer}
 use Rattle.frames.specs.declared.frame.Outcome.{Outcome}
 use Rattle.spi_flash.specs.declared.error.FlashError.{FlashError}
@@ -18,7 +19,7 @@ use Rattle.spi_flash.specs.Path.{Past, back, End, going, done, failed, d
 
 module _ (status : Command) (busy : ℕ → Bool) where
   abbrev pub lookAt : Prog ℕ
-  lookAt = transfer (Transfer.Read status 1 Sink.Number)
+  lookAt = transfer (Transfer.Framed status (Body.Read 1 Sink.Number))
 
   -- both drivers' `loop` of `wait_ready`, by fuel; `WaitLoop` below says that the fuel is enough
   unfoldable pub waitLoop : ℕ → Timings → ℕ → Prog (Unit {0})
@@ -73,11 +74,11 @@ looks t = pollCount t + 1
 abbrev pub lookWeight : Transfer → ℕ
 lookWeight Transfer.Raise = 0
 lookWeight (Transfer.Pause us) = 0
-lookWeight (Transfer.Send c) = 0
-lookWeight (Transfer.Read c n sink) = 1
-lookWeight (Transfer.Write c payload) = 0
-lookWeight (Transfer.QuadRead c tclqv margin n sink) = 0
-lookWeight (Transfer.QuadWrite c payload) = 0
+lookWeight (Transfer.Framed c Body.None) = 0
+lookWeight (Transfer.Framed c (Body.Read n sink)) = 1
+lookWeight (Transfer.Framed c (Body.Write payload)) = 0
+lookWeight (Transfer.Framed c (Body.QuadRead tclqv margin n sink)) = 0
+lookWeight (Transfer.Framed c (Body.QuadWrite payload)) = 0
 
 -- what a wait does with a transfer: it asks a delay, or looks
 pub data WaitStep : Type 0 where
@@ -87,11 +88,11 @@ pub data WaitStep : Type 0 where
 abbrev pub waitStep : Transfer → WaitStep
 waitStep Transfer.Raise = other
 waitStep (Transfer.Pause us) = pauses us
-waitStep (Transfer.Send c) = other
-waitStep (Transfer.Read c n sink) = looksAt
-waitStep (Transfer.Write c payload) = other
-waitStep (Transfer.QuadRead c tclqv margin n sink) = other
-waitStep (Transfer.QuadWrite c payload) = other
+waitStep (Transfer.Framed c Body.None) = other
+waitStep (Transfer.Framed c (Body.Read n sink)) = looksAt
+waitStep (Transfer.Framed c (Body.Write payload)) = other
+waitStep (Transfer.Framed c (Body.QuadRead tclqv margin n sink)) = other
+waitStep (Transfer.Framed c (Body.QuadWrite payload)) = other
 
 abbrev pub OnlyPause : WaitStep → (ℕ → Type 0) → Type 0
 OnlyPause (pauses us) P = P us

@@ -11,14 +11,13 @@ use Rattle.flash_turns.specs.declared.state.Turn.{Turn}
 use Rattle.trace_case.specs.Advance.{turnedTo, advancedOf}
 use Rattle.trace_case.specs.State.{tracedBy}
 use Rattle.trace_case.specs.declared.state.Trace.{Trace}
-use Rattle.trace_case.specs.declared.state.Traced.{Traced}
 
-pub advanced : (trace : Trace) (text scratch room reply : List ℕ) (out : Text) (n : ℕ) (turn : Turn) (room₁ reply₁ out₁ : List ℕ) (stepped : Stepped) (scratch₂ room₂ : List ℕ) (r : Traced) →
+pub advanced : (trace : Trace) (text scratch room reply : List ℕ) (out : Text) (n : ℕ) (turn : Turn) (room₁ reply₁ out₁ : List ℕ) (stepped : Stepped) (scratch₂ room₂ : List ℕ) (r : Trace) →
     n ≡ countOf (trace .stepped .flash) →
     takesTo (turn .settings) (turn .place) (turn .ask) room₁ reply₁ (textOf out₁ (turn .at)) ≡ turnOf (trace .settings) (trace .place) (trace .stepped .given) n text scratch room reply out →
     movedTo stepped scratch₂ room₂ ≡ askedOver (trace .stepped) (turn .ask) scratch room₁ reply₁ →
     r ≡ tracedBy turn stepped →
-    turnedTo (r .trace) scratch₂ room₂ reply₁ (textOf out₁ (r .at)) ≡ advancedOf trace text scratch room reply out
+    turnedTo r scratch₂ room₂ reply₁ (textOf out₁ (turn .at)) ≡ advancedOf trace text scratch room reply out
 unfolding advancedOf
 advanced trace text scratch room reply out n turn room₁ reply₁ out₁ stepped scratch₂ room₂ r count taken asked stood =
     rw (stood, ← count, ← taken, ← asked)

@@ -12,7 +12,6 @@ use Rattle.dialect.specs.declared.settings.Settings.{Settings}
 use Rattle.flash_turns.specs.State.{begunIn}
 use Rattle.flash_turns.specs.declared.state.Turn.{Turn}
 use Rattle.trace_case.specs.declared.state.Trace.{Trace}
-use Rattle.trace_case.specs.declared.state.Traced.{Traced}
 
 abbrev pub traceOf : Stepped → Settings → Place → Trace
 traceOf stepped settings place = record { stepped = stepped; settings = settings; place = place }
@@ -25,6 +24,5 @@ abbrev pub overAt : Trace → Bool
 overAt trace = place.overOf (trace .place)
 
 -- after a turn whose question has been answered by the driver
-abbrev pub tracedBy : Turn → Stepped → Traced
-tracedBy turn stepped =
-    record { trace = traceOf stepped (turn .settings) (begunIn (turn .place) (turn .ask) (stepped .given)); at = turn .at }
+abbrev pub tracedBy : Turn → Stepped → Trace
+tracedBy turn stepped = traceOf stepped (turn .settings) (begunIn (turn .place) (turn .ask) (stepped .given))

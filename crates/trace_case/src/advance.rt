@@ -1,7 +1,6 @@
 // One turn of a trace, and what it asks of the driver.
 use crate::state;
 use crate::state::Trace;
-use crate::state::Traced;
 use flash::drive;
 use flash_lent::lent;
 use flash_turns::turn;
@@ -9,7 +8,7 @@ ghost use mathlib.Core.Path.{_≡_};
 ghost use Rattle.lines.specs.Text.{textOf};
 ghost use Rattle.trace_case.specs.Advance.{turnedTo, advancedOf};
 
-// A trace that is over stays as it is.
+// A trace that is over stays as it is. `at` is the place behind what was printed.
 pub fn advance(
     trace: Trace,
     text: &[u8],
@@ -17,9 +16,9 @@ pub fn advance(
     room: &mut [u8],
     reply: &mut [u8],
     out: &mut [u8],
-    at: usize,
-) -> Traced
-    ensures { λ r. ⌜ turnedTo (r .trace) (now (scratch .exit)) (now (room .exit)) (now (reply .exit)) (textOf (now (out .exit)) (r .at)) ≡ advancedOf trace (now (text .entry)) (now (scratch .entry)) (now (room .entry)) (now (reply .entry)) (textOf (now (out .entry)) at) ⌝ }
+    at: &mut usize,
+) -> Trace
+    ensures { λ r. ⌜ turnedTo r (now (scratch .exit)) (now (room .exit)) (now (reply .exit)) (textOf (now (out .exit)) (now (at .exit))) ≡ advancedOf trace (now (text .entry)) (now (scratch .entry)) (now (room .entry)) (now (reply .entry)) (textOf (now (out .entry)) (now (at .entry))) ⌝ }
 {
     let stepped = trace.stepped;
     let flash = stepped.flash;
@@ -37,8 +36,9 @@ pub fn advance(
         room,
         reply,
         out,
-        at,
+        *at,
     );
     let ask = turn.ask;
+    *at = turn.at;
     state::traced_by(turn, lent::asked(stepped, ask, scratch, room, reply))
 }

@@ -23,9 +23,7 @@ pub fn traced(kind: Kind, text: &[u8], room: &mut [u8], reply: &mut [u8], out: &
         if state::over(trace) {
             return at;
         }
-        let next = advance::advance(trace, text, &mut scratch, room, reply, out, at);
-        trace = next.trace;
-        at = next.at;
+        trace = advance::advance(trace, text, &mut scratch, room, reply, out, &mut at);
         i += 1;
     }
     at

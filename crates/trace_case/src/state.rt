@@ -20,12 +20,6 @@ pub struct Trace {
     pub place: Place,
 }
 
-// A trace after a turn, and the place behind what was printed.
-pub struct Traced {
-    pub trace: Trace,
-    pub at: usize,
-}
-
 // Before the first line.
 pub fn start(kind: Kind) -> Trace
     ensures { λ r. ⌜ r ≡ startOf kind ⌝ }
@@ -45,19 +39,16 @@ pub fn over(trace: Trace) -> bool
 }
 
 // After a turn whose question has been answered by the driver.
-pub fn traced_by(turn: Turn, stepped: Stepped) -> Traced
+pub fn traced_by(turn: Turn, stepped: Stepped) -> Trace
     ensures { λ r. ⌜ r ≡ tracedBy turn stepped ⌝ }
 {
     let settings = turn.settings;
     let place = turn.place;
     let ask = turn.ask;
     let given = stepped.given;
-    Traced {
-        trace: Trace {
-            stepped: stepped,
-            settings: settings,
-            place: state::begun_in(place, ask, given),
-        },
-        at: turn.at,
+    Trace {
+        stepped: stepped,
+        settings: settings,
+        place: state::begun_in(place, ask, given),
     }
 }

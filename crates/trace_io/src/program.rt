@@ -25,9 +25,9 @@ fn print_case(kind: Kind, text: &[u8], room: &mut [u8], reply: &mut [u8], out: &
         if state::over(now) {
             return;
         }
-        let next = advance::advance(now, text, &mut scratch, room, reply, out, 0);
-        io::write_all(STDOUT, bytes::delivered(out, next.at));
-        now = next.trace;
+        let mut at = 0;
+        now = advance::advance(now, text, &mut scratch, room, reply, out, &mut at);
+        io::write_all(STDOUT, bytes::delivered(out, at));
         i += 1;
     }
 }

@@ -8,41 +8,23 @@ enum-told c = search needs
 enum-told-2 : tie.Need-enum-told-2
 enum-told-2 c = search needs
 
-enum-told-3 : tie.Need-enum-told-3
-enum-told-3 c = search needs
+enum-known-transfer : tie.Need-enum-known-transfer
+enum-known-transfer c = search needs
 
-enum-told-4 : tie.Need-enum-told-4
-enum-told-4 c = search needs
-
-enum-told-5 : tie.Need-enum-told-5
-enum-told-5 c = search needs
-
-enum-told-6 : tie.Need-enum-told-6
-enum-told-6 c = search needs
-
-enum-told-7 : tie.Need-enum-told-7
-enum-told-7 c = search needs
+is-quad-requires : tie.Need-is-quad-requires
+is-quad-requires c κs = search needs
 
 returns : tie.Need-returns
-returns c = search needs
+returns c = simp (c .if1 .taken, c .before .before .before .transfer .given .1, ← c .before .is-quad .ensures)
 
 returns-2 : tie.Need-returns-2
 returns-2 c = search needs
 
 returns-3 : tie.Need-returns-3
-returns-3 c = simp (c .enum-told3 .given .1)
+returns-3 c = search needs
 
 returns-4 : tie.Need-returns-4
-returns-4 c = simp (c .enum-told4 .given .1)
-
-returns-5 : tie.Need-returns-5
-returns-5 c = simp (c .enum-told5 .given .1)
-
-returns-6 : tie.Need-returns-6
-returns-6 c = simp (c .enum-told6 .given .1)
-
-returns-7 : tie.Need-returns-7
-returns-7 c = simp (c .enum-told7 .given .1)
+returns-4 c = simp (c .if1 .left, c .before .before .before .transfer .given .1, ← c .before .is-quad .ensures)
 
 pub after-start-spec : {M : Type 1} → statement M
 after-start-spec =
@@ -50,15 +32,9 @@ after-start-spec =
     (tie.spec
     enum-told
     enum-told-2
-    enum-told-3
-    enum-told-4
-    enum-told-5
-    enum-told-6
-    enum-told-7
+    enum-known-transfer
+    is-quad-requires
     returns
     returns-2
     returns-3
-    returns-4
-    returns-5
-    returns-6
-    returns-7)
+    returns-4)

@@ -8,32 +8,11 @@ enum-told c = search needs
 enum-told-2 : tie.Need-enum-told-2
 enum-told-2 c = search needs
 
-enum-told-3 : tie.Need-enum-told-3
-enum-told-3 c = search needs
-
 enum-known-transfer : tie.Need-enum-known-transfer
 enum-known-transfer c = search needs
 
-enum-known-transfer-2 : tie.Need-enum-known-transfer-2
-enum-known-transfer-2 c = search needs
-
-payload-part-requires : tie.Need-payload-part-requires
-payload-part-requires c κs = search needs
-
-enum-known-transfer-3 : tie.Need-enum-known-transfer-3
-enum-known-transfer-3 c = search needs
-
-command-part-requires : tie.Need-command-part-requires
-command-part-requires c κs = search needs
-
-enum-known-transfer-4 : tie.Need-enum-known-transfer-4
-enum-known-transfer-4 c = search needs
-
-command-part-requires-2 : tie.Need-command-part-requires-2
-command-part-requires-2 c κs = search needs
-
-payload-part-requires-2 : tie.Need-payload-part-requires-2
-payload-part-requires-2 c κs = search needs
+body-action-requires : tie.Need-body-action-requires
+body-action-requires c κs = search needs
 
 returns : tie.Need-returns
 returns c = search needs
@@ -42,19 +21,7 @@ returns-2 : tie.Need-returns-2
 returns-2 c = search needs
 
 returns-3 : tie.Need-returns-3
-returns-3 c = search needs
-
-returns-4 : tie.Need-returns-4
-returns-4 c = simp (c .before .transfer .given .1)
-
-returns-5 : tie.Need-returns-5
-returns-5 c = simp (c .before .before .transfer2 .given .1, ← c .payload-part .ensures)
-
-returns-6 : tie.Need-returns-6
-returns-6 c = simp (c .before .before .transfer3 .given .1, ← c .command-part .ensures)
-
-returns-7 : tie.Need-returns-7
-returns-7 c = simp (c .before .before .before .transfer4 .given .1, ← c .payload-part2 .ensures, ← c .before .command-part2 .ensures)
+returns-3 c = simp (c .before .before .transfer .given .1, ← c .body-action .ensures)
 
 pub payload-action-spec : {M : Type 1} → statement M
 payload-action-spec =
@@ -62,19 +29,8 @@ payload-action-spec =
     (tie.spec
     enum-told
     enum-told-2
-    enum-told-3
     enum-known-transfer
-    enum-known-transfer-2
-    payload-part-requires
-    enum-known-transfer-3
-    command-part-requires
-    enum-known-transfer-4
-    command-part-requires-2
-    payload-part-requires-2
+    body-action-requires
     returns
     returns-2
-    returns-3
-    returns-4
-    returns-5
-    returns-6
-    returns-7)
+    returns-3)

@@ -11,56 +11,26 @@ enum-told-2 c = search needs
 enum-known-transfer : tie.Need-enum-known-transfer
 enum-known-transfer c = search needs
 
-put-command-requires : tie.Need-put-command-requires
-put-command-requires c κs = search needs
-
-enum-known-transfer-2 : tie.Need-enum-known-transfer-2
-enum-known-transfer-2 c = search needs
-
-put-command-requires-2 : tie.Need-put-command-requires-2
-put-command-requires-2 c κs = search needs
-
-enum-known-transfer-3 : tie.Need-enum-known-transfer-3
-enum-known-transfer-3 c = search needs
-
-put-command-requires-3 : tie.Need-put-command-requires-3
-put-command-requires-3 c κs = search needs
-
-enum-told-3 : tie.Need-enum-told-3
-enum-told-3 c = search needs
-
-enum-told-4 : tie.Need-enum-told-4
-enum-told-4 c = search needs
+is-quad-requires : tie.Need-is-quad-requires
+is-quad-requires c κs = search needs
 
 returns : tie.Need-returns
 returns c = search needs
 
+put-command-requires : tie.Need-put-command-requires
+put-command-requires c κs = search needs
+
 returns-2 : tie.Need-returns-2
 returns-2 c = search needs
+
+returns-3 : tie.Need-returns-3
+returns-3 c = search needs
 
 same-length : tie.Need-same-length
 same-length c = search needs
 
-returns-3 : tie.Need-returns-3
-returns-3 c = simp (c .before .before .before .before .before .transfer .given .1, ← c .before .before .put-command .ensures)
-
-same-length-2 : tie.Need-same-length-2
-same-length-2 c = search needs
-
 returns-4 : tie.Need-returns-4
-returns-4 c = simp (c .before .before .before .before .before .transfer2 .given .1, ← c .before .before .put-command2 .ensures)
-
-same-length-3 : tie.Need-same-length-3
-same-length-3 c = search needs
-
-returns-5 : tie.Need-returns-5
-returns-5 c = simp (c .before .before .before .before .before .transfer3 .given .1, ← c .before .before .put-command3 .ensures)
-
-returns-6 : tie.Need-returns-6
-returns-6 c = search needs
-
-returns-7 : tie.Need-returns-7
-returns-7 c = search needs
+returns-4 c = simp (c .before .before .before .before .if1 .left, c .before .before .before .before .before .before .before .transfer .given .1, ← c .before .before .put-command .ensures, ← c .before .before .before .before .before .is-quad .ensures)
 
 pub put-at-command-spec : {M : Type 1} → statement M
 put-at-command-spec =
@@ -69,20 +39,10 @@ put-at-command-spec =
     enum-told
     enum-told-2
     enum-known-transfer
-    put-command-requires
-    enum-known-transfer-2
-    put-command-requires-2
-    enum-known-transfer-3
-    put-command-requires-3
-    enum-told-3
-    enum-told-4
+    is-quad-requires
     returns
+    put-command-requires
     returns-2
-    same-length
     returns-3
-    same-length-2
-    returns-4
-    same-length-3
-    returns-5
-    returns-6
-    returns-7)
+    same-length
+    returns-4)

@@ -31,7 +31,7 @@ returns : tie.Need-returns
 returns c =
     let asked = c .before .before .before .before .before in
     let turn = asked .before .before .before .before .before .before .before .before .before .before in
-    let count = turn .before .before .before .before .before in
+    let count = turn .before .before .before .before .before .before in
     advanced _ _ _ _ _ _ _ _ _ _ _ _ _ _ _ (count .count .ensures) (turn .turn .ensures) (asked .asked .ensures) (c .traced-by .ensures)
 
 pub advance-spec : {M : Type 1} → statement M

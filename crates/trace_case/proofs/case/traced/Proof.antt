@@ -66,8 +66,8 @@ loop-less c = search needs
 
 loop-again : tie.Need-loop-again Inv-loop μ-loop
 loop-again c =
-    let advance = c .before .before .before .before .before .before .before .before in
-    let left = advance .before .before .before .before .before in
+    let advance = c .before .before .before .before .before .before .before in
+    let left = advance .before .before .before .before .before .before in
     let loop = left .before .before in (
       rw (advance .advance .ensures)
           (turn-taken _ _ _ _ (loop .loop-test .taken) (sym (left .before .over .ensures) ∙ left .if1 .left) ∙ loop .before .loop .inv .0),
