@@ -1,4 +1,5 @@
 -- What follows each transfer of a call: nand/driver.rs, cut where it uses the bus.
+use mathlib.Core.Bool.{Bool, true, false}
 use Prim.Native.Nat.{ℕ, _%_}
 use Rattle.qspi.specs.Choice.{pick}
 use Rattle.qspi.specs.declared.transfer.Payload.{Payload}
@@ -10,6 +11,7 @@ use Rattle.spi_nand.specs.Status.{statusOf, writeEnabledOf, configurationOf, pr
 use Rattle.spi_nand.specs.declared.config.NandJedecId.{NandJedecId}
 use Rattle.spi_nand.specs.declared.status.Status.{Status}
 use Rattle.nand_answers.specs.declared.answer.Answer.{Answer}
+use Rattle.nand_phases.specs.BringUp.{inBringUp}
 use Rattle.nand_phases.specs.declared.phase.Asked.{Asked}
 use Rattle.nand_phases.specs.declared.phase.EnableFor.{EnableFor}
 use Rattle.nand_phases.specs.declared.phase.EnableStep.{EnableStep}
@@ -19,7 +21,6 @@ use Rattle.nand_phases.specs.declared.phase.ProgramFor.{ProgramFor}
 use Rattle.nand_phases.specs.declared.phase.RegisterFor.{RegisterFor}
 use Rattle.nand_phases.specs.declared.phase.ResetFor.{ResetFor}
 use Rattle.nand_phases.specs.declared.phase.Task.{Task}
-use Rattle.nand_phases.specs.declared.phase.Within.{Within}
 use Rattle.nand_phases.specs.declared.setup.Setup.{Setup}
 use Rattle.nand_pages.specs.Block.{erasedThen, markerThen, fillFrom, filledThen, markThen}
 use Rattle.nand_pages.specs.Cache.{comparedThen, loadProgramThen}
@@ -68,19 +69,19 @@ enablingThen setup why EnableStep.Latch status = latchedThen setup why status
 -- ---- what was asked
 
 -- jedec_id, reset_and_identify; bring_up
-unfoldable pub identifyThen : Setup → NandJedecId → Within → Then
-identifyThen setup id Within.Call = endWith setup (Answer.Id id)
-identifyThen setup id Within.BringUp = identifiedThen setup id
+unfoldable pub identifyThen : Setup → NandJedecId → Bool → Then
+identifyThen setup id false = endWith setup (Answer.Id id)
+identifyThen setup id true = identifiedThen setup id
 
 -- what stands behind the read of a register, or of the id
 unfoldable pub answeredThen : Setup → Asked → ℕ → Then
 answeredThen setup Asked.Status v = endWith setup (Answer.Status (statusOf (byteOf v)))
 answeredThen setup Asked.Configuration v = endWith setup (Answer.Configuration (configurationOf (byteOf v)))
 answeredThen setup Asked.Protection v = endWith setup (Answer.Protection (protectionOf (byteOf v)))
-answeredThen setup (Asked.Id within) v = identifyThen setup (idOf v) within
-answeredThen setup (Asked.Configure within) v = configureThen setup (configurationOf (byteOf v)) within
-answeredThen setup (Asked.Configured before within) v = checkConfiguration setup before within (configurationOf (byteOf v))
-answeredThen setup (Asked.Unprotect within) v = unprotectThen setup (protectionOf (byteOf v)) within
+answeredThen setup (Asked.Id bringUp) v = identifyThen setup (idOf v) bringUp
+answeredThen setup (Asked.Configure bringUp) v = configureThen setup (configurationOf (byteOf v)) bringUp
+answeredThen setup (Asked.Configured before bringUp) v = checkConfiguration setup before bringUp (configurationOf (byteOf v))
+answeredThen setup (Asked.Unprotect bringUp) v = unprotectThen setup (protectionOf (byteOf v)) bringUp
 answeredThen setup Asked.BroughtUp v = broughtUp setup (configurationOf (byteOf v))
 answeredThen setup Asked.DisableQuad v = disableQuad setup (configurationOf (byteOf v))
 answeredThen setup Asked.QuadDisabled v = quadDisabled setup (configurationOf (byteOf v))
@@ -91,7 +92,7 @@ answeredThen setup (Asked.Erased why) v = erasedThen setup why (statusOf (byteOf
 -- ---- what follows a transfer that gave v
 
 unfoldable pub afterPhase : Setup → Phase → ℕ → Then
-afterPhase setup Phase.Raised v = reset setup (ResetFor.Identify Within.BringUp)
+afterPhase setup Phase.Raised v = reset setup (ResetFor.Identify inBringUp)
 afterPhase setup (Phase.Asking asked) v = answeredThen setup asked v
 afterPhase setup (Phase.Enabling why at) v = enablingThen setup why at (statusOf (byteOf v))
 afterPhase setup (Phase.Waiting task at waited) v = waitingThen setup task at waited (statusOf (byteOf v))

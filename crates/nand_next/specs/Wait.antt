@@ -22,7 +22,7 @@ use Rattle.nand_steps.specs.declared.then.Then.{Then}
 -- reset, reset_and_identify
 unfoldable pub resetThen : Setup → ResetFor → Then
 resetThen setup ResetFor.Reset = done setup
-resetThen setup (ResetFor.Identify within) = askId setup within
+resetThen setup (ResetFor.Identify bringUp) = askId setup bringUp
 
 -- what stands behind `self.wait_ready(..)?` of each
 unfoldable pub resumeTask : Setup → Task → Then

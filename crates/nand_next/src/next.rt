@@ -15,7 +15,6 @@ use nand_phases::phase::ProgramFor;
 use nand_phases::phase::RegisterFor;
 use nand_phases::phase::ResetFor;
 use nand_phases::phase::Task;
-use nand_phases::phase::Within;
 use nand_phases::setup::Setup;
 use nand_steps::go;
 use nand_steps::register;
@@ -28,6 +27,7 @@ use spi_nand::status::Configuration;
 use spi_nand::status::Protection;
 use spi_nand::status::Status;
 ghost use mathlib.Core.Path.{_≡_};
+ghost use Rattle.nand_phases.specs.BringUp.{inBringUp};
 ghost use Rattle.nand_steps.specs.Go.{look, reset};
 ghost use Rattle.nand_next.specs.Next.{byteOf, writeThen, loadPageThen, startErase, enabledThen, latchedThen, enablingThen, identifyThen, answeredThen, afterPhase, nextOf};
 
@@ -123,13 +123,13 @@ fn enabling(setup: Setup, why: EnableFor, at: EnableStep, status: Status) -> The
 
 // ---- what was asked
 
-fn identify(setup: Setup, id: NandJedecId, within: Within) -> Then
-    ensures { λ r. ⌜ r ≡ identifyThen setup id within ⌝ }
+fn identify(setup: Setup, id: NandJedecId, bring_up: bool) -> Then
+    ensures { λ r. ⌜ r ≡ identifyThen setup id «bring_up» ⌝ }
 {
-    match within {
-        Within::Call => return go::end(setup, Answer::Id(id)),
-        Within::BringUp => return register::identified(setup, id),
+    if bring_up {
+        return register::identified(setup, id);
     }
+    go::end(setup, Answer::Id(id))
 }
 
 // The value of the register that was asked for.
@@ -145,20 +145,20 @@ fn answered(setup: Setup, asked: Asked, v: u64) -> Then
         Asked::Protection => {
             return go::end(setup, Answer::Protection(Protection::from_byte(b)));
         }
-        Asked::Id(within) => return identify(setup, register::id_of(v), within),
-        Asked::Configure(within) => {
-            return register::configure(setup, Configuration::from_byte(b), within);
+        Asked::Id { bring_up } => return identify(setup, register::id_of(v), bring_up),
+        Asked::Configure { bring_up } => {
+            return register::configure(setup, Configuration::from_byte(b), bring_up);
         }
-        Asked::Configured { before, within } => {
+        Asked::Configured { before, bring_up } => {
             return register::check_configuration(
                 setup,
                 before,
-                within,
+                bring_up,
                 Configuration::from_byte(b),
             );
         }
-        Asked::Unprotect(within) => {
-            return register::unprotect(setup, Protection::from_byte(b), within);
+        Asked::Unprotect { bring_up } => {
+            return register::unprotect(setup, Protection::from_byte(b), bring_up);
         }
         Asked::BroughtUp => return register::brought_up(setup, Configuration::from_byte(b)),
         Asked::DisableQuad => return register::disable_quad(setup, Configuration::from_byte(b)),
@@ -173,9 +173,9 @@ fn answered(setup: Setup, asked: Asked, v: u64) -> Then
 
 // with_config's select high.
 fn raised(setup: Setup) -> Then
-    ensures { λ r. ⌜ r ≡ reset setup (ResetFor.Identify Within.BringUp) ⌝ }
+    ensures { λ r. ⌜ r ≡ reset setup (ResetFor.Identify inBringUp) ⌝ }
 {
-    go::reset(setup, ResetFor::Identify(Within::BringUp))
+    go::reset(setup, ResetFor::Identify { bring_up: true })
 }
 
 fn after(setup: Setup, phase: Phase, v: u64) -> Then

@@ -24,7 +24,7 @@ fn reset_done(setup: Setup, why: ResetFor) -> Then
 {
     match why {
         ResetFor::Reset => return go::done(setup),
-        ResetFor::Identify(within) => return go::ask_id(setup, within),
+        ResetFor::Identify { bring_up } => return go::ask_id(setup, bring_up),
     }
 }
 

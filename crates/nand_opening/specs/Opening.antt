@@ -6,6 +6,7 @@ use Rattle.spi_flash.specs.declared.loan.Takes.{Takes}
 use Rattle.spi_nand.specs.Config.{singleConfig}
 use Rattle.spi_nand.specs.Opcode.{REG-STATUS, REG-CONFIGURATION, REG-BLOCK-PROTECTION}
 use Rattle.nand_answers.specs.declared.answer.Answer.{Answer}
+use Rattle.nand_phases.specs.BringUp.{itsOwn}
 use Rattle.nand_phases.specs.declared.call.Call.{Call}
 use Rattle.nand_phases.specs.declared.phase.Asked.{Asked}
 use Rattle.nand_phases.specs.declared.phase.EnableFor.{EnableFor}
@@ -16,7 +17,6 @@ use Rattle.nand_phases.specs.declared.phase.Phase.{Phase}
 use Rattle.nand_phases.specs.declared.phase.ProgramFor.{ProgramFor}
 use Rattle.nand_phases.specs.declared.phase.RegisterFor.{RegisterFor}
 use Rattle.nand_phases.specs.declared.phase.ResetFor.{ResetFor}
-use Rattle.nand_phases.specs.declared.phase.Within.{Within}
 use Rattle.nand_phases.specs.declared.setup.Setup.{Setup}
 use Rattle.nand_pages.specs.Block.{eraseThen}
 use Rattle.nand_pages.specs.Cache.{readCacheThen, loadProgramThen}
@@ -51,10 +51,10 @@ openingOf setup Call.ReadStatus b d = plain (ask setup REG-STATUS Asked.Status)
 openingOf setup Call.ReadConfiguration b d = plain (ask setup REG-CONFIGURATION Asked.Configuration)
 openingOf setup Call.ReadProtection b d = plain (ask setup REG-BLOCK-PROTECTION Asked.Protection)
 openingOf setup Call.Reset b d = plain (reset setup ResetFor.Reset)
-openingOf setup Call.JedecId b d = plain (askId setup Within.Call)
-openingOf setup Call.ResetAndIdentify b d = plain (reset setup (ResetFor.Identify Within.Call))
-openingOf setup Call.EnsureConfiguration b d = plain (ask setup REG-CONFIGURATION (Asked.Configure Within.Call))
-openingOf setup Call.Unprotect b d = plain (ask setup REG-BLOCK-PROTECTION (Asked.Unprotect Within.Call))
+openingOf setup Call.JedecId b d = plain (askId setup itsOwn)
+openingOf setup Call.ResetAndIdentify b d = plain (reset setup (ResetFor.Identify itsOwn))
+openingOf setup Call.EnsureConfiguration b d = plain (ask setup REG-CONFIGURATION (Asked.Configure itsOwn))
+openingOf setup Call.Unprotect b d = plain (ask setup REG-BLOCK-PROTECTION (Asked.Unprotect itsOwn))
 openingOf setup (Call.PageRead page) b d = plain (pageReadThen setup page LoadFor.PageRead)
 openingOf setup (Call.ReadCache column) b d = filling b (readCacheThen setup column b (Sink.Buffer 0) Phase.ReadingCache)
 openingOf setup (Call.LoadProgramData column) b d = sending d (loadProgramThen setup column (Payload.Data 0 d) Phase.LoadingData)

@@ -14,7 +14,6 @@ use nand_phases::phase::Phase;
 use nand_phases::phase::ProgramFor;
 use nand_phases::phase::RegisterFor;
 use nand_phases::phase::ResetFor;
-use nand_phases::phase::Within;
 use nand_phases::setup::Setup;
 use nand_steps::go;
 use nand_steps::then::Then;
@@ -24,6 +23,7 @@ use spi_flash::loan::Takes;
 use spi_nand::config::SpiNandConfig;
 use spi_nand::opcode;
 ghost use mathlib.Core.Path.{_≡_};
+ghost use Rattle.nand_phases.specs.BringUp.{itsOwn};
 ghost use Rattle.nand_pages.specs.Block.{eraseThen};
 ghost use Rattle.nand_pages.specs.Cache.{readCacheThen, loadProgramThen};
 ghost use Rattle.nand_steps.specs.Go.{ask, askId, reset, enable};
@@ -114,9 +114,9 @@ fn resets(setup: Setup, why: ResetFor) -> Opening
 }
 
 fn jedec_id(setup: Setup) -> Opening
-    ensures { λ r. ⌜ r ≡ plain (askId setup Within.Call) ⌝ }
+    ensures { λ r. ⌜ r ≡ plain (askId setup itsOwn) ⌝ }
 {
-    plain(go::ask_id(setup, Within::Call))
+    plain(go::ask_id(setup, false))
 }
 
 // ---- pages
@@ -221,19 +221,19 @@ pub fn opening_of(setup: Setup, call: Call, buffer_len: usize, data_len: usize) 
         }
         Call::Reset => return resets(setup, ResetFor::Reset),
         Call::JedecId => return jedec_id(setup),
-        Call::ResetAndIdentify => return resets(setup, ResetFor::Identify(Within::Call)),
+        Call::ResetAndIdentify => return resets(setup, ResetFor::Identify { bring_up: false }),
         Call::EnsureConfiguration => {
             return asks(
                 setup,
                 opcode::REG_CONFIGURATION,
-                Asked::Configure(Within::Call),
+                Asked::Configure { bring_up: false },
             );
         }
         Call::Unprotect => {
             return asks(
                 setup,
                 opcode::REG_BLOCK_PROTECTION,
-                Asked::Unprotect(Within::Call),
+                Asked::Unprotect { bring_up: false },
             );
         }
         Call::PageRead { page } => return page_read(setup, page),

@@ -1,3 +1,4 @@
 pub mod Setup
 pub mod Verdict
 pub mod Transfer
+pub mod BringUp

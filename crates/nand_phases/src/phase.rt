@@ -4,15 +4,10 @@ use spi_nand::status::Protection;
 ghost use mathlib.Core.Path.{_≡_};
 ghost use Rattle.nand_phases.specs.Verdict.{asksVerdict};
 
-// A call of its own, or a part of bring_up.
-pub enum Within {
-    Call,
-    BringUp,
-}
-
+// Here and below `bring_up` tells a part of bring_up from a call of its own.
 pub enum ResetFor {
     Reset,
-    Identify(Within),
+    Identify { bring_up: bool },
 }
 
 // What write_register is for.
@@ -21,13 +16,13 @@ pub enum RegisterFor {
     // ensure_configuration, with the register as it was read.
     Configure {
         before: Configuration,
-        within: Within,
+        bring_up: bool,
     },
     DisableQuad,
     // unprotect, likewise.
     Unprotect {
         before: Protection,
-        within: Within,
+        bring_up: bool,
     },
 }
 
@@ -132,14 +127,20 @@ pub enum Asked {
     Configuration,
     Protection,
     // jedec_id, reset_and_identify; bring_up
-    Id(Within),
+    Id {
+        bring_up: bool,
+    },
     // ensure_configuration: before the write, and after it
-    Configure(Within),
+    Configure {
+        bring_up: bool,
+    },
     Configured {
         before: Configuration,
-        within: Within,
+        bring_up: bool,
     },
-    Unprotect(Within),
+    Unprotect {
+        bring_up: bool,
+    },
     // bring_up's last
     BroughtUp,
     // disable_quad, likewise

@@ -24,7 +24,6 @@ use Rattle.nand_phases.specs.Setup.{initOf, setupOf, identifiedAs, withBefore, 
 use Rattle.nand_phases.specs.Transfer.{registerTransfer}
 use Rattle.nand_phases.specs.declared.call.Call.{Call}
 use Rattle.nand_phases.specs.declared.phase.Phase.{Phase}
-use Rattle.nand_phases.specs.declared.phase.Within.{Within}
 use Rattle.nand_phases.specs.declared.setup.Setup.{Setup}
 use Rattle.nand_steps.specs.Register.{geometryAt, geometryFor}
 use Rattle.nand_driver.specs.Call.{givenAt, freshSetup}
@@ -54,14 +53,14 @@ module _ (config : SpiNandConfig) (id : NandJedecId) (g : NandGeometry) where
   unlocking before = if not (isUnlocked before) then write-register REG-BLOCK-PROTECTION 0x00 else ret tt
 
   unlocked : (before : Configuration) → unprotect >>= (λ protection. read-configuration >>= ends before protection)
-      ≡ read-protection >>= unprotect-on (withBefore identity before) Within.BringUp
+      ≡ read-protection >>= unprotect-on (withBefore identity before) true
   unfolding unprotect read-protection unprotect-on unprotected read-configuration brought-up _>>=_ _>>_
   unlocked before =
       ap (ask (registerTransfer REG-BLOCK-PROTECTION))
       (fun-ext (λ v. bind-assoc (unlocking (protectionOf (v % 256))) (λ u. ret (protectionOf (v % 256))) (λ protection. read-configuration >>= ends before protection)))
 
   brought : ensure-configuration config >>= (λ before. unprotect >>= (λ protection. read-configuration >>= ends before protection))
-      ≡ read-configuration >>= configure-on identity Within.BringUp
+      ≡ read-configuration >>= configure-on identity true
   unfolding ensure-configuration read-configuration configure-on configured check-configured _>>=_ _>>_
   brought =
       ap (ask (registerTransfer REG-CONFIGURATION))
@@ -91,7 +90,7 @@ large (GeometrySetting.Given own) id h = h
 
 -- what follows the id, by the page
 module _ (s : Setup) (id : NandJedecId) (g : NandGeometry) (is : geometryFor s id ≡ g) where
-  identified-taken : leb (g .«page_size») MAX-VERIFY-PAGE-SIZE ≡ true → identified s id ≡ read-configuration >>= configure-on (identifiedAs s g id) Within.BringUp
+  identified-taken : leb (g .«page_size») MAX-VERIFY-PAGE-SIZE ≡ true → identified s id ≡ read-configuration >>= configure-on (identifiedAs s g id) true
   unfolding identified
   identified-taken h = rw (is, h) refl
 
@@ -144,7 +143,7 @@ module _ (config : SpiNandConfig) where
         ∙ brought config id (resolved (config .geometry) id)
         ∙ sym (goes-on id)
       where
-        goes-on : (id : NandJedecId) → identified fresh id ≡ read-configuration >>= configure-on (identity config id (resolved (config .geometry) id)) Within.BringUp
+        goes-on : (id : NandJedecId) → identified fresh id ≡ read-configuration >>= configure-on (identity config id (resolved (config .geometry) id)) true
         goes-on id = identified-taken fresh id _ (resolves config id) (small (config .geometry) id taken)
 
     builds : with-config config >>= DONE ≡ ask Transfer.Raise (meaning (place fresh Phase.Raised))

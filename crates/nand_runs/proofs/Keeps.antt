@@ -37,7 +37,6 @@ use Rattle.nand_phases.specs.declared.phase.ProgramFor.{ProgramFor}
 use Rattle.nand_phases.specs.declared.phase.RegisterFor.{RegisterFor}
 use Rattle.nand_phases.specs.declared.phase.ResetFor.{ResetFor}
 use Rattle.nand_phases.specs.declared.phase.Task.{Task}
-use Rattle.nand_phases.specs.declared.phase.Within.{Within}
 use Rattle.nand_phases.specs.declared.setup.Setup.{Setup}
 use Rattle.nand_steps.specs.Register.{idOf, geometryAt, geometryFor, wantedFor, identifiedThen, configuredThen, configureThen, checkConfiguration, unprotectedThen, unprotectThen, disableQuad, quadDisabled, writtenThen}
 use Rattle.nand_pages.specs.Cache.{readCacheThen, pieceThen, comparedThen, loadProgramThen, payloadLength}
@@ -53,7 +52,7 @@ use Rattle.nand_runs.proofs.Places.{thenAs, decide, Valid}
 
 -- ---- the phases of a construction are told by what they are within
 
-module _ (Ok : Within → Type 0) where
+module _ (Ok : Bool → Type 0) where
   abbrev pub OkRegister : RegisterFor → Type 0
   OkRegister RegisterFor.Call = Unit {0}
   OkRegister (RegisterFor.Configure before within) = Ok within
@@ -86,7 +85,7 @@ module _ (Ok : Within → Type 0) where
   OkAsked (Asked.Configure within) = Ok within
   OkAsked (Asked.Configured before within) = Ok within
   OkAsked (Asked.Unprotect within) = Ok within
-  OkAsked Asked.BroughtUp = Ok Within.BringUp
+  OkAsked Asked.BroughtUp = Ok true
   OkAsked Asked.DisableQuad = Unit {0}
   OkAsked Asked.QuadDisabled = Unit {0}
   OkAsked (Asked.Verdict why) = Unit {0}
@@ -94,7 +93,7 @@ module _ (Ok : Within → Type 0) where
   OkAsked (Asked.Erased why) = Unit {0}
 
   abbrev pub OkPhase : Phase → Type 0
-  OkPhase Phase.Raised = Ok Within.BringUp
+  OkPhase Phase.Raised = Ok true
   OkPhase (Phase.Asking asked) = OkAsked asked
   OkPhase (Phase.Enabling why EnableStep.Command) = OkEnable why
   OkPhase (Phase.Enabling why EnableStep.Latch) = OkEnable why
@@ -112,7 +111,7 @@ module _ (Ok : Within → Type 0) where
 
 -- every phase is ok where everything is
 module _ where
-  abbrev Any : Within → Type 0
+  abbrev Any : Bool → Type 0
   Any within = Unit {0}
 
   any-register : (why : RegisterFor) → OkRegister Any why
@@ -176,16 +175,16 @@ keeps-pick R true x y h k = h
 keeps-pick R false x y h k = k
 
 -- R holds of every step that goes on with a setup of which In holds, in a phase that is ok; In is kept by what bring_up puts down
-pub record Passes (Ok : Within → Type 0) (In : Setup → Type 0) (R : Then → Type 0) : Type 0 where
+pub record Passes (Ok : Bool → Type 0) (In : Setup → Type 0) (R : Then → Type 0) : Type 0 where
   pub go : (s : Setup) (t : Transfer) (phase : Phase) → In s → OkPhase Ok phase → R (Then.Go s t phase)
   pub end : (s : Setup) (answer : Answer) → In s → R (Then.End s answer)
   pub fail : (e : FlashError) → R (Then.Fail e)
-  pub identified : (s : Setup) (id : NandJedecId) → Ok Within.BringUp → In s → In (identifiedAs s (geometryFor s id) id)
-  pub before : (s : Setup) (c : Configuration) → Ok Within.BringUp → In s → In (withBefore s c)
-  pub protection : (s : Setup) (p : Protection) → Ok Within.BringUp → In s → In (withProtection s p)
-  pub after : (s : Setup) (c : Configuration) → Ok Within.BringUp → In s → In (withAfter s c)
+  pub identified : (s : Setup) (id : NandJedecId) → Ok true → In s → In (identifiedAs s (geometryFor s id) id)
+  pub before : (s : Setup) (c : Configuration) → Ok true → In s → In (withBefore s c)
+  pub protection : (s : Setup) (p : Protection) → Ok true → In s → In (withProtection s p)
+  pub after : (s : Setup) (c : Configuration) → Ok true → In s → In (withAfter s c)
 
-module _ {Ok : Within → Type 0} {In : Setup → Type 0} {R : Then → Type 0} (passes : Passes Ok In R) where
+module _ {Ok : Bool → Type 0} {In : Setup → Type 0} {R : Then → Type 0} (passes : Passes Ok In R) where
   abbrev chosen : (b : Bool) {x y : Then} → R x → R y → R (pick b x y)
   chosen b {x} {y} h k = keeps-pick R b x y h k
 
@@ -298,25 +297,25 @@ module _ {Ok : Within → Type 0} {In : Setup → Type 0} {R : Then → Type 0} 
 
     -- ---- the registers
 
-    keeps-unprotected : (p : Protection) (within : Within) → Ok within → R (unprotectedThen s p within)
+    keeps-unprotected : (p : Protection) (within : Bool) → Ok within → R (unprotectedThen s p within)
     unfolding unprotectedThen
-    keeps-unprotected p Within.Call h = ends
-    keeps-unprotected p Within.BringUp h = passes .go _ _ _ (passes .protection s p h i) h
+    keeps-unprotected p false h = ends
+    keeps-unprotected p true h = passes .go _ _ _ (passes .protection s p h i) h
 
-    keeps-unprotect : (p : Protection) (within : Within) → Ok within → R (unprotectThen s p within)
+    keeps-unprotect : (p : Protection) (within : Bool) → Ok within → R (unprotectThen s p within)
     unfolding unprotectThen
     keeps-unprotect p within h = chosen (isUnlocked p) (keeps-unprotected p within h) (goes h)
 
-    keeps-configured : (c : Configuration) (within : Within) → Ok within → R (configuredThen s c within)
+    keeps-configured : (c : Configuration) (within : Bool) → Ok within → R (configuredThen s c within)
     unfolding configuredThen
-    keeps-configured c Within.Call h = ends
-    keeps-configured c Within.BringUp h = passes .go _ _ _ (passes .before s c h i) h
+    keeps-configured c false h = ends
+    keeps-configured c true h = passes .go _ _ _ (passes .before s c h i) h
 
-    keeps-configure : (c : Configuration) (within : Within) → Ok within → R (configureThen s c within)
+    keeps-configure : (c : Configuration) (within : Bool) → Ok within → R (configureThen s c within)
     unfolding configureThen
     keeps-configure c within h = chosen (sameConfiguration (wantedFor (s .config) c) c) (keeps-configured c within h) (goes h)
 
-    keeps-check : (c : Configuration) (within : Within) (after : Configuration) → Ok within → R (checkConfiguration s c within after)
+    keeps-check : (c : Configuration) (within : Bool) (after : Configuration) → Ok within → R (checkConfiguration s c within after)
     unfolding checkConfiguration
     keeps-check c within after h = chosen (sameConfiguration after (wantedFor (s .config) c)) (keeps-configured c within h) fails
 
@@ -335,10 +334,10 @@ module _ {Ok : Within → Type 0} {In : Setup → Type 0} {R : Then → Type 0} 
     keeps-written RegisterFor.DisableQuad h = goes tt
     keeps-written (RegisterFor.Unprotect p within) h = keeps-unprotected p within h
 
-    keeps-identify : (id : NandJedecId) (within : Within) → Ok within → R (identifyThen s id within)
+    keeps-identify : (id : NandJedecId) (within : Bool) → Ok within → R (identifyThen s id within)
     unfolding identifyThen identifiedThen
-    keeps-identify id Within.Call h = ends
-    keeps-identify id Within.BringUp h = chosen (leb (geometryFor s id .«page_size») 4096) (passes .go _ _ _ (passes .identified s id h i) h) fails
+    keeps-identify id false h = ends
+    keeps-identify id true h = chosen (leb (geometryFor s id .«page_size») 4096) (passes .go _ _ _ (passes .identified s id h i) h) fails
 
     -- ---- every phase
 
@@ -432,9 +431,9 @@ keeps s i phase v = keeps-phase inside s i phase v (all-ok phase)
 
 -- ---- a call on a driver that is built goes on with what the driver holds
 
-abbrev pub OnlyCalls : Within → Type 0
-OnlyCalls Within.Call = Unit {0}
-OnlyCalls Within.BringUp = ⊥
+abbrev pub OnlyCalls : Bool → Type 0
+OnlyCalls false = Unit {0}
+OnlyCalls true = ⊥
 
 -- the phases of such a call
 abbrev pub Built : Phase → Type 0

@@ -34,7 +34,6 @@ use Rattle.nand_phases.specs.declared.phase.ProgramFor.{ProgramFor}
 use Rattle.nand_phases.specs.declared.phase.RegisterFor.{RegisterFor}
 use Rattle.nand_phases.specs.declared.phase.ResetFor.{ResetFor}
 use Rattle.nand_phases.specs.declared.phase.Task.{Task}
-use Rattle.nand_phases.specs.declared.phase.Within.{Within}
 use Rattle.nand_phases.specs.declared.setup.Setup.{Setup}
 use Rattle.nand_steps.specs.Register.{geometryFor}
 use Rattle.nand_rust.specs.Rust.{Nothing, MAX-VERIFY-PAGE-SIZE, id-of, wanted-of, uncorrectable, read-status, read-configuration, read-protection, wait-ready, write-enable, write-register, reset, jedec-id, read-cache, load-program-data, program-execute, read-page, erase-block, reading, is-bad-block, filling}
@@ -132,22 +131,22 @@ erased s why status = refuse (eraseFailedOf status) FlashError.EraseFailed >> af
 unfoldable pub brought-up : Setup → Configuration → Prog Left
 brought-up s after = DONE (withAfter s after)
 
-unfoldable pub unprotected : Setup → Protection → Within → Prog Left
-unprotected s before Within.Call = ret (leaving s (Answer.Protection before))
-unprotected s before Within.BringUp = read-configuration >>= brought-up (withProtection s before)
+unfoldable pub unprotected : Setup → Protection → Bool → Prog Left
+unprotected s before false = ret (leaving s (Answer.Protection before))
+unprotected s before true = read-configuration >>= brought-up (withProtection s before)
 
-unfoldable pub unprotect-on : Setup → Within → Protection → Prog Left
+unfoldable pub unprotect-on : Setup → Bool → Protection → Prog Left
 unprotect-on s within before =
     (if not (isUnlocked before) then write-register REG-BLOCK-PROTECTION 0x00 else ret tt) >> unprotected s before within
 
-unfoldable pub configured : Setup → Configuration → Within → Prog Left
-configured s before Within.Call = ret (leaving s (Answer.Configuration before))
-configured s before Within.BringUp = read-protection >>= unprotect-on (withBefore s before) Within.BringUp
+unfoldable pub configured : Setup → Configuration → Bool → Prog Left
+configured s before false = ret (leaving s (Answer.Configuration before))
+configured s before true = read-protection >>= unprotect-on (withBefore s before) true
 
 unfoldable pub check-configured : Setup → Configuration → Configuration → Prog Nothing
 check-configured s before after = refuse (not (sameConfiguration after (wanted-of (s .config) before))) FlashError.NotSupported
 
-unfoldable pub configure-on : Setup → Within → Configuration → Prog Left
+unfoldable pub configure-on : Setup → Bool → Configuration → Prog Left
 configure-on s within before =
     (if not (sameConfiguration (wanted-of (s .config) before) before)
     then (write-register REG-CONFIGURATION (configurationByte (wanted-of (s .config) before)) >> (read-configuration >>= check-configured s before))
@@ -173,12 +172,12 @@ written s (RegisterFor.Unprotect before within) = unprotected s before within
 unfoldable pub identified : Setup → NandJedecId → Prog Left
 identified s id =
     pick (leb (geometryFor s id .«page_size») MAX-VERIFY-PAGE-SIZE)
-    (read-configuration >>= configure-on (identifiedAs s (geometryFor s id) id) Within.BringUp)
+    (read-configuration >>= configure-on (identifiedAs s (geometryFor s id) id) true)
     (fail FlashError.NotSupported)
 
-unfoldable pub identify : Setup → Within → NandJedecId → Prog Left
-identify s Within.Call id = ret (leaving s (Answer.Id id))
-identify s Within.BringUp id = identified s id
+unfoldable pub identify : Setup → Bool → NandJedecId → Prog Left
+identify s false id = ret (leaving s (Answer.Id id))
+identify s true id = identified s id
 
 -- ---- behind a wait, and behind the write-enable latch
 

@@ -33,7 +33,6 @@ use Rattle.nand_phases.specs.declared.phase.ProgramFor.{ProgramFor}
 use Rattle.nand_phases.specs.declared.phase.RegisterFor.{RegisterFor}
 use Rattle.nand_phases.specs.declared.phase.ResetFor.{ResetFor}
 use Rattle.nand_phases.specs.declared.phase.Task.{Task}
-use Rattle.nand_phases.specs.declared.phase.Within.{Within}
 use Rattle.nand_phases.specs.declared.setup.Setup.{Setup}
 use Rattle.nand_steps.specs.Go.{ask as askThen, askId, send, enable}
 use Rattle.nand_pages.specs.Cache.{within, readCacheThen, loadProgramThen}
@@ -66,7 +65,7 @@ module _ (s : Setup) where
   unfolding read-protection answered meaningAt _>>=_ _>>_
   tells-protection = refl
 
-  pub tells-id : jedec-id >>= (λ id. ret (leaving s (Answer.Id id))) ≡ tree meaning (decide (askId s Within.Call))
+  pub tells-id : jedec-id >>= (λ id. ret (leaving s (Answer.Id id))) ≡ tree meaning (decide (askId s false))
   unfolding jedec-id answered identify meaningAt _>>=_ _>>_
   tells-id = refl
 
@@ -82,14 +81,14 @@ module _ (s : Setup) where
   unfolding reset resumed reset-done taskOperation
   resets = sends s resetCommand (Task.Reset ResetFor.Reset)
 
-  pub identifies : reset-and-identify >>= (λ id. ret (leaving s (Answer.Id id))) ≡ tree meaning (decide (send s resetCommand (Task.Reset (ResetFor.Identify Within.Call))))
+  pub identifies : reset-and-identify >>= (λ id. ret (leaving s (Answer.Id id))) ≡ tree meaning (decide (send s resetCommand (Task.Reset (ResetFor.Identify false))))
   unfolding reset-and-identify reset resumed reset-done identify taskOperation _>>_
   identifies =
       bind-assoc reset (λ u. jedec-id) (λ id. ret (leaving s (Answer.Id id)))
-      ∙ sends s resetCommand (Task.Reset (ResetFor.Identify Within.Call))
+      ∙ sends s resetCommand (Task.Reset (ResetFor.Identify false))
 
   pub configures : ensure-configuration (s .config) >>= (λ before. ret (leaving s (Answer.Configuration before)))
-      ≡ tree meaning (decide (askThen s REG-CONFIGURATION (Asked.Configure Within.Call)))
+      ≡ tree meaning (decide (askThen s REG-CONFIGURATION (Asked.Configure false)))
   unfolding ensure-configuration read-configuration answered configure-on configured check-configured meaningAt _>>=_ _>>_
   configures =
       ap (ask (registerTransfer REG-CONFIGURATION))
@@ -103,7 +102,7 @@ module _ (s : Setup) where
           else ret tt
 
   pub unprotects : unprotect >>= (λ before. ret (leaving s (Answer.Protection before)))
-      ≡ tree meaning (decide (askThen s REG-BLOCK-PROTECTION (Asked.Unprotect Within.Call)))
+      ≡ tree meaning (decide (askThen s REG-BLOCK-PROTECTION (Asked.Unprotect false)))
   unfolding unprotect read-protection answered unprotect-on unprotected meaningAt _>>=_ _>>_
   unprotects =
       ap (ask (registerTransfer REG-BLOCK-PROTECTION))

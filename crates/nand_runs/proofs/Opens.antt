@@ -27,7 +27,6 @@ use Rattle.nand_phases.specs.declared.phase.ProgramFor.{ProgramFor}
 use Rattle.nand_phases.specs.declared.phase.RegisterFor.{RegisterFor}
 use Rattle.nand_phases.specs.declared.phase.ResetFor.{ResetFor}
 use Rattle.nand_phases.specs.declared.phase.Task.{Task}
-use Rattle.nand_phases.specs.declared.phase.Within.{Within}
 use Rattle.nand_phases.specs.declared.setup.Setup.{Setup}
 use Rattle.nand_steps.specs.Go.{ask as askThen, askId, send, enable}
 use Rattle.nand_pages.specs.Cache.{readCacheThen, loadProgramThen, payloadLength}
@@ -130,10 +129,10 @@ opens s Call.ReadStatus b d = used s Call.ReadStatus b d Takes.Nothing (askThen 
 opens s Call.ReadConfiguration b d = used s Call.ReadConfiguration b d Takes.Nothing (askThen s REG-CONFIGURATION Asked.Configuration) refl (λ h. tells-configuration s) ((refl, tt)) (λ select. refl)
 opens s Call.ReadProtection b d = used s Call.ReadProtection b d Takes.Nothing (askThen s REG-BLOCK-PROTECTION Asked.Protection) refl (λ h. tells-protection s) ((refl, tt)) (λ select. refl)
 opens s Call.Reset b d = used s Call.Reset b d Takes.Nothing (send s resetCommand (Task.Reset ResetFor.Reset)) refl (λ h. resets s) ((refl, tt)) (λ select. refl)
-opens s Call.JedecId b d = used s Call.JedecId b d Takes.Nothing (askId s Within.Call) refl (λ h. tells-id s) ((refl, tt)) (λ select. refl)
-opens s Call.ResetAndIdentify b d = used s Call.ResetAndIdentify b d Takes.Nothing (send s resetCommand (Task.Reset (ResetFor.Identify Within.Call))) refl (λ h. identifies s) ((refl, tt)) (λ select. refl)
-opens s Call.EnsureConfiguration b d = used s Call.EnsureConfiguration b d Takes.Nothing (askThen s REG-CONFIGURATION (Asked.Configure Within.Call)) refl (λ h. configures s) ((refl, tt)) (λ select. refl)
-opens s Call.Unprotect b d = used s Call.Unprotect b d Takes.Nothing (askThen s REG-BLOCK-PROTECTION (Asked.Unprotect Within.Call)) refl (λ h. unprotects s) ((refl, tt)) (λ select. refl)
+opens s Call.JedecId b d = used s Call.JedecId b d Takes.Nothing (askId s false) refl (λ h. tells-id s) ((refl, tt)) (λ select. refl)
+opens s Call.ResetAndIdentify b d = used s Call.ResetAndIdentify b d Takes.Nothing (send s resetCommand (Task.Reset (ResetFor.Identify false))) refl (λ h. identifies s) ((refl, tt)) (λ select. refl)
+opens s Call.EnsureConfiguration b d = used s Call.EnsureConfiguration b d Takes.Nothing (askThen s REG-CONFIGURATION (Asked.Configure false)) refl (λ h. configures s) ((refl, tt)) (λ select. refl)
+opens s Call.Unprotect b d = used s Call.Unprotect b d Takes.Nothing (askThen s REG-BLOCK-PROTECTION (Asked.Unprotect false)) refl (λ h. unprotects s) ((refl, tt)) (λ select. refl)
 opens s (Call.PageRead page) b d = used s (Call.PageRead page) b d Takes.Nothing (pageReadThen s page LoadFor.PageRead) refl (λ h. loads-page s page) (keeps-page-read (stays s) s refl page LoadFor.PageRead) (selects-page-read s page LoadFor.PageRead)
 opens s (Call.ReadCache column) b d = used s (Call.ReadCache column) b d (Takes.Buffer b) (readCacheThen s column b (Sink.Buffer 0) Phase.ReadingCache) refl (λ h. reads-from-cache s column b) (keeps-read-cache (stays s) s refl column b (Sink.Buffer 0) Phase.ReadingCache tt) (selects-read-cache s column b)
 opens s (Call.LoadProgramData column) b d = used s (Call.LoadProgramData column) b d (Takes.Data d) (loadProgramThen s column (Payload.Data 0 d) Phase.LoadingData) refl (λ h. loads-data s column d) (keeps-load-data (stays s) s refl column (Payload.Data 0 d) Phase.LoadingData tt) (selects-load-data s column (Payload.Data 0 d))

@@ -45,7 +45,6 @@ use Rattle.nand_phases.specs.declared.phase.ProgramFor.{ProgramFor}
 use Rattle.nand_phases.specs.declared.phase.RegisterFor.{RegisterFor}
 use Rattle.nand_phases.specs.declared.phase.ResetFor.{ResetFor}
 use Rattle.nand_phases.specs.declared.phase.Task.{Task}
-use Rattle.nand_phases.specs.declared.phase.Within.{Within}
 use Rattle.nand_phases.specs.declared.setup.Setup.{Setup}
 use Rattle.nand_steps.specs.Register.{idOf, geometryFor, wantedFor, withQuad, identifiedThen, configuredThen, configureThen, checkConfiguration, unprotectedThen, unprotectThen, disableQuad, quadDisabled, writtenThen}
 use Rattle.nand_steps.specs.Go.{send, enable}
@@ -229,10 +228,10 @@ compares s v = by-cases (eqb v 0) (λ h. rw h) (λ h. rw h)
 
 -- ---- the registers
 
-configures : (s : Setup) (before : Configuration) (within : Within) → configured s before within ≡ tree meaning (decide (configuredThen s before within))
+configures : (s : Setup) (before : Configuration) (within : Bool) → configured s before within ≡ tree meaning (decide (configuredThen s before within))
 unfolding configured configuredThen meaningAt answered read-protection _>>=_ _>>_
-configures s before Within.Call = refl
-configures s before Within.BringUp = refl
+configures s before false = refl
+configures s before true = refl
 
 same-wanted : (s : Setup) (before : Configuration) → wantedFor (s .config) before ≡ wanted-of (s .config) before
 unfolding wantedFor
@@ -242,25 +241,25 @@ same-wanted s before = at (s .config .quad) (withBits before (bitOr ECC-ENABLE B
     at QuadSetting.Single c = refl
     at (QuadSetting.Quad q) c = refl
 
-configures-on : (s : Setup) (within : Within) (before : Configuration) → configure-on s within before ≡ tree meaning (decide (configureThen s before within))
+configures-on : (s : Setup) (within : Bool) (before : Configuration) → configure-on s within before ≡ tree meaning (decide (configureThen s before within))
 unfolding configure-on configureThen written _>>=_ _>>_
 configures-on s within before = rw (same-wanted s before)
     (by-cases (sameConfiguration (wanted-of (s .config) before) before)
     (λ h. rw h (configures s before within))
     (λ h. rw h (then-assoc (write-register _ _) _ (configured s before within) ∙ registers s _ _ (RegisterFor.Configure before within))))
 
-checks-configured : (s : Setup) (before : Configuration) (within : Within) (after : Configuration) →
+checks-configured : (s : Setup) (before : Configuration) (within : Bool) (after : Configuration) →
     check-configured s before after >> configured s before within ≡ tree meaning (decide (checkConfiguration s before within after))
 unfolding check-configured checkConfiguration refuse _>>=_ _>>_
 checks-configured s before within after = rw (same-wanted s before)
     (by-cases (sameConfiguration after (wanted-of (s .config) before)) (λ h. rw h (configures s before within)) (λ h. rw h))
 
-unprotects : (s : Setup) (before : Protection) (within : Within) → unprotected s before within ≡ tree meaning (decide (unprotectedThen s before within))
+unprotects : (s : Setup) (before : Protection) (within : Bool) → unprotected s before within ≡ tree meaning (decide (unprotectedThen s before within))
 unfolding unprotected unprotectedThen meaningAt answered read-configuration _>>=_ _>>_
-unprotects s before Within.Call = refl
-unprotects s before Within.BringUp = refl
+unprotects s before false = refl
+unprotects s before true = refl
 
-unprotects-on : (s : Setup) (within : Within) (before : Protection) → unprotect-on s within before ≡ tree meaning (decide (unprotectThen s before within))
+unprotects-on : (s : Setup) (within : Bool) (before : Protection) → unprotect-on s within before ≡ tree meaning (decide (unprotectThen s before within))
 unfolding unprotect-on unprotectThen written _>>=_ _>>_
 unprotects-on s within before =
     by-cases (isUnlocked before)
@@ -289,10 +288,10 @@ identifies : (s : Setup) (id : NandJedecId) → identified s id ≡ tree meaning
 unfolding identified identifiedThen meaningAt answered read-configuration _>>=_ _>>_
 identifies s id = by-cases (leb (geometryFor s id .«page_size») MAX-VERIFY-PAGE-SIZE) (λ h. rw h) (λ h. rw h)
 
-identifies-within : (s : Setup) (within : Within) (id : NandJedecId) → identify s within id ≡ tree meaning (decide (identifyThen s id within))
+identifies-within : (s : Setup) (within : Bool) (id : NandJedecId) → identify s within id ≡ tree meaning (decide (identifyThen s id within))
 unfolding identify identifyThen
-identifies-within s Within.Call id = refl
-identifies-within s Within.BringUp id = identifies s id
+identifies-within s false id = refl
+identifies-within s true id = identifies s id
 
 -- ---- the loops
 

@@ -1,4 +1,5 @@
 -- The steps that calls are made of (nand/driver.rs).
+use mathlib.Core.Bool.{Bool}
 use Prim.Native.Nat.{ℕ}
 use Rattle.qspi.specs.Transfer.{commandOnly}
 use Rattle.qspi.specs.declared.command.Command.{Command}
@@ -15,7 +16,6 @@ use Rattle.nand_phases.specs.declared.phase.Phase.{Phase}
 use Rattle.nand_phases.specs.declared.phase.ResetFor.{ResetFor}
 use Rattle.nand_phases.specs.declared.phase.Task.{Task}
 use Rattle.nand_phases.specs.declared.phase.WaitStep.{WaitStep}
-use Rattle.nand_phases.specs.declared.phase.Within.{Within}
 use Rattle.nand_phases.specs.declared.setup.Setup.{Setup}
 use Rattle.nand_steps.specs.declared.then.Then.{Then}
 
@@ -34,8 +34,8 @@ abbrev pub ask : Setup → ℕ → Asked → Then
 ask setup register asked = goTo setup (registerTransfer register) (Phase.Asking asked)
 
 -- jedec_id
-abbrev pub askId : Setup → Within → Then
-askId setup within = goTo setup idTransfer (Phase.Asking (Asked.Id within))
+abbrev pub askId : Setup → Bool → Then
+askId setup bringUp = goTo setup idTransfer (Phase.Asking (Asked.Id bringUp))
 
 -- read_status, of a wait or of write_enable
 abbrev pub look : Setup → Phase → Then

@@ -1,6 +1,6 @@
 -- The feature registers (nand/driver.rs: bring_up, ensure_configuration, unprotect, disable_quad), cut where they use the bus.
 use Prim.Native.Nat.{ℕ, _/_, _%_}
-use mathlib.Core.Bool.{Bool}
+use mathlib.Core.Bool.{Bool, true, false}
 use lib.Bits.{bitOr}
 use lib.Dec.{leb}
 use Rattle.qspi.specs.Choice.{pick}
@@ -16,11 +16,11 @@ use Rattle.spi_nand.specs.declared.config.SpiNandConfig.{SpiNandConfig}
 use Rattle.spi_nand.specs.declared.status.Configuration.{Configuration}
 use Rattle.spi_nand.specs.declared.status.Protection.{Protection}
 use Rattle.nand_answers.specs.declared.answer.Answer.{Answer}
+use Rattle.nand_phases.specs.BringUp.{inBringUp}
 use Rattle.nand_phases.specs.Setup.{identifiedAs, withBefore, withProtection, withAfter}
 use Rattle.nand_phases.specs.declared.phase.Asked.{Asked}
 use Rattle.nand_phases.specs.declared.phase.EnableFor.{EnableFor}
 use Rattle.nand_phases.specs.declared.phase.RegisterFor.{RegisterFor}
-use Rattle.nand_phases.specs.declared.phase.Within.{Within}
 use Rattle.nand_phases.specs.declared.setup.Setup.{Setup}
 use Rattle.nand_steps.specs.Go.{endWith, done, ask, enable}
 use Rattle.nand_steps.specs.declared.then.Then.{Then}
@@ -47,7 +47,7 @@ geometryFor setup id = geometryAt (setup .config .geometry) (setup .geometry) id
 unfoldable pub identifiedThen : Setup → NandJedecId → Then
 identifiedThen setup id =
     pick (leb (geometryFor setup id .«page_size») MAX-VERIFY-PAGE-SIZE)
-    (ask (identifiedAs setup (geometryFor setup id) id) REG-CONFIGURATION (Asked.Configure Within.BringUp))
+    (ask (identifiedAs setup (geometryFor setup id) id) REG-CONFIGURATION (Asked.Configure inBringUp))
     (Then.Fail FlashError.NotSupported)
 
 -- the last read of bring_up
@@ -64,31 +64,31 @@ withQuad (QuadSetting.Quad q) c = withBits c QUAD-ENABLE QUAD-ENABLE
 unfoldable pub wantedFor : SpiNandConfig → Configuration → Configuration
 wantedFor config before = withQuad (config .quad) (withBits before (bitOr ECC-ENABLE BUFFER-READ) (configurationByte OPERATIONAL))
 
-unfoldable pub configuredThen : Setup → Configuration → Within → Then
-configuredThen setup before Within.Call = endWith setup (Answer.Configuration before)
-configuredThen setup before Within.BringUp = ask (withBefore setup before) REG-BLOCK-PROTECTION (Asked.Unprotect Within.BringUp)
+unfoldable pub configuredThen : Setup → Configuration → Bool → Then
+configuredThen setup before false = endWith setup (Answer.Configuration before)
+configuredThen setup before true = ask (withBefore setup before) REG-BLOCK-PROTECTION (Asked.Unprotect inBringUp)
 
 -- `if wanted != before { self.write_register(..)? .. }`
-unfoldable pub configureThen : Setup → Configuration → Within → Then
-configureThen setup before within =
-    pick (sameConfiguration (wantedFor (setup .config) before) before) (configuredThen setup before within)
-    (enable setup (EnableFor.Register REG-CONFIGURATION (configurationByte (wantedFor (setup .config) before)) (RegisterFor.Configure before within)))
+unfoldable pub configureThen : Setup → Configuration → Bool → Then
+configureThen setup before bringUp =
+    pick (sameConfiguration (wantedFor (setup .config) before) before) (configuredThen setup before bringUp)
+    (enable setup (EnableFor.Register REG-CONFIGURATION (configurationByte (wantedFor (setup .config) before)) (RegisterFor.Configure before bringUp)))
 
 -- `if self.read_configuration()? != wanted`
-unfoldable pub checkConfiguration : Setup → Configuration → Within → Configuration → Then
-checkConfiguration setup before within after =
-    pick (sameConfiguration after (wantedFor (setup .config) before)) (configuredThen setup before within) (Then.Fail FlashError.NotSupported)
+unfoldable pub checkConfiguration : Setup → Configuration → Bool → Configuration → Then
+checkConfiguration setup before bringUp after =
+    pick (sameConfiguration after (wantedFor (setup .config) before)) (configuredThen setup before bringUp) (Then.Fail FlashError.NotSupported)
 
 -- ---- unprotect
 
-unfoldable pub unprotectedThen : Setup → Protection → Within → Then
-unprotectedThen setup before Within.Call = endWith setup (Answer.Protection before)
-unprotectedThen setup before Within.BringUp = ask (withProtection setup before) REG-CONFIGURATION Asked.BroughtUp
+unfoldable pub unprotectedThen : Setup → Protection → Bool → Then
+unprotectedThen setup before false = endWith setup (Answer.Protection before)
+unprotectedThen setup before true = ask (withProtection setup before) REG-CONFIGURATION Asked.BroughtUp
 
-unfoldable pub unprotectThen : Setup → Protection → Within → Then
-unprotectThen setup before within =
-    pick (isUnlocked before) (unprotectedThen setup before within)
-    (enable setup (EnableFor.Register REG-BLOCK-PROTECTION 0 (RegisterFor.Unprotect before within)))
+unfoldable pub unprotectThen : Setup → Protection → Bool → Then
+unprotectThen setup before bringUp =
+    pick (isUnlocked before) (unprotectedThen setup before bringUp)
+    (enable setup (EnableFor.Register REG-BLOCK-PROTECTION 0 (RegisterFor.Unprotect before bringUp)))
 
 -- ---- disable_quad
 
@@ -105,6 +105,6 @@ quadDisabled setup after = pick (quadEnabledOf after) (Then.Fail FlashError.NotS
 
 unfoldable pub writtenThen : Setup → RegisterFor → Then
 writtenThen setup RegisterFor.Call = done setup
-writtenThen setup (RegisterFor.Configure before within) = ask setup REG-CONFIGURATION (Asked.Configured before within)
+writtenThen setup (RegisterFor.Configure before bringUp) = ask setup REG-CONFIGURATION (Asked.Configured before bringUp)
 writtenThen setup RegisterFor.DisableQuad = ask setup REG-CONFIGURATION Asked.QuadDisabled
-writtenThen setup (RegisterFor.Unprotect before within) = unprotectedThen setup before within
+writtenThen setup (RegisterFor.Unprotect before bringUp) = unprotectedThen setup before bringUp

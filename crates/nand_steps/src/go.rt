@@ -8,7 +8,6 @@ use nand_phases::phase::Phase;
 use nand_phases::phase::ResetFor;
 use nand_phases::phase::Task;
 use nand_phases::phase::WaitStep;
-use nand_phases::phase::Within;
 use nand_phases::setup::Setup;
 use nand_phases::transfer;
 use qspi::command::Command;
@@ -56,13 +55,13 @@ pub fn ask(setup: Setup, register: u8, asked: Asked) -> Then
 }
 
 // jedec_id
-pub fn ask_id(setup: Setup, within: Within) -> Then
-    ensures { λ r. ⌜ r ≡ askId setup within ⌝ }
+pub fn ask_id(setup: Setup, bring_up: bool) -> Then
+    ensures { λ r. ⌜ r ≡ askId setup «bring_up» ⌝ }
 {
     go(
         setup,
         transfer::id_transfer(),
-        Phase::Asking(Asked::Id(within)),
+        Phase::Asking(Asked::Id { bring_up: bring_up }),
     )
 }
 

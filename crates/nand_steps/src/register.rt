@@ -5,7 +5,6 @@ use nand_answers::answer::Answer;
 use nand_phases::phase::Asked;
 use nand_phases::phase::EnableFor;
 use nand_phases::phase::RegisterFor;
-use nand_phases::phase::Within;
 use nand_phases::setup::Setup;
 use spi_flash::error::FlashError;
 use spi_nand::config::GeometrySetting;
@@ -53,7 +52,7 @@ pub fn identified(setup: Setup, id: NandJedecId) -> Then
         return go::ask(
             setup.identified_as(geometry, id),
             opcode::REG_CONFIGURATION,
-            Asked::Configure(Within::BringUp),
+            Asked::Configure { bring_up: true },
         );
     }
     Then::Fail(FlashError::NotSupported)
@@ -79,12 +78,12 @@ fn wanted(config: SpiNandConfig, before: Configuration) -> Configuration
 }
 
 // The register as it was read: it is written where it is not as wanted.
-pub fn configure(setup: Setup, before: Configuration, within: Within) -> Then
-    ensures { λ r. ⌜ r ≡ configureThen setup before within ⌝ }
+pub fn configure(setup: Setup, before: Configuration, bring_up: bool) -> Then
+    ensures { λ r. ⌜ r ≡ configureThen setup before «bring_up» ⌝ }
 {
     let after = wanted(setup.config, before);
     if after.same(before) {
-        return configured(setup, before, within);
+        return configured(setup, before, bring_up);
     }
     go::enable(
         setup,
@@ -93,50 +92,48 @@ pub fn configure(setup: Setup, before: Configuration, within: Within) -> Then
             value: after.byte(),
             why: RegisterFor::Configure {
                 before: before,
-                within: within,
+                bring_up: bring_up,
             },
         },
     )
 }
 
 // `Ok(before)`; bring_up keeps it and goes on with unprotect.
-fn configured(setup: Setup, before: Configuration, within: Within) -> Then
-    ensures { λ r. ⌜ r ≡ configuredThen setup before within ⌝ }
+fn configured(setup: Setup, before: Configuration, bring_up: bool) -> Then
+    ensures { λ r. ⌜ r ≡ configuredThen setup before «bring_up» ⌝ }
 {
-    match within {
-        Within::Call => return go::end(setup, Answer::Configuration(before)),
-        Within::BringUp => {
-            return go::ask(
-                setup.with_before(before),
-                opcode::REG_BLOCK_PROTECTION,
-                Asked::Unprotect(Within::BringUp),
-            );
-        }
+    if bring_up {
+        return go::ask(
+            setup.with_before(before),
+            opcode::REG_BLOCK_PROTECTION,
+            Asked::Unprotect { bring_up: true },
+        );
     }
+    go::end(setup, Answer::Configuration(before))
 }
 
 // The register read back.
 pub fn check_configuration(
     setup: Setup,
     before: Configuration,
-    within: Within,
+    bring_up: bool,
     after: Configuration,
 ) -> Then
-    ensures { λ r. ⌜ r ≡ checkConfiguration setup before within after ⌝ }
+    ensures { λ r. ⌜ r ≡ checkConfiguration setup before «bring_up» after ⌝ }
 {
     if after.same(wanted(setup.config, before)) {
-        return configured(setup, before, within);
+        return configured(setup, before, bring_up);
     }
     Then::Fail(FlashError::NotSupported)
 }
 
 // ---- unprotect
 
-pub fn unprotect(setup: Setup, before: Protection, within: Within) -> Then
-    ensures { λ r. ⌜ r ≡ unprotectThen setup before within ⌝ }
+pub fn unprotect(setup: Setup, before: Protection, bring_up: bool) -> Then
+    ensures { λ r. ⌜ r ≡ unprotectThen setup before «bring_up» ⌝ }
 {
     if before.is_unlocked() {
-        return unprotected(setup, before, within);
+        return unprotected(setup, before, bring_up);
     }
     go::enable(
         setup,
@@ -145,26 +142,24 @@ pub fn unprotect(setup: Setup, before: Protection, within: Within) -> Then
             value: 0x00,
             why: RegisterFor::Unprotect {
                 before: before,
-                within: within,
+                bring_up: bring_up,
             },
         },
     )
 }
 
 // `Ok(before)`; bring_up keeps it and reads the configuration a last time.
-fn unprotected(setup: Setup, before: Protection, within: Within) -> Then
-    ensures { λ r. ⌜ r ≡ unprotectedThen setup before within ⌝ }
+fn unprotected(setup: Setup, before: Protection, bring_up: bool) -> Then
+    ensures { λ r. ⌜ r ≡ unprotectedThen setup before «bring_up» ⌝ }
 {
-    match within {
-        Within::Call => return go::end(setup, Answer::Protection(before)),
-        Within::BringUp => {
-            return go::ask(
-                setup.with_protection(before),
-                opcode::REG_CONFIGURATION,
-                Asked::BroughtUp,
-            );
-        }
+    if bring_up {
+        return go::ask(
+            setup.with_protection(before),
+            opcode::REG_CONFIGURATION,
+            Asked::BroughtUp,
+        );
     }
+    go::end(setup, Answer::Protection(before))
 }
 
 // with_config's end.
@@ -209,19 +204,19 @@ pub fn written(setup: Setup, why: RegisterFor) -> Then
 {
     match why {
         RegisterFor::Call => return go::done(setup),
-        RegisterFor::Configure { before, within } => {
+        RegisterFor::Configure { before, bring_up } => {
             return go::ask(
                 setup,
                 opcode::REG_CONFIGURATION,
                 Asked::Configured {
                     before: before,
-                    within: within,
+                    bring_up: bring_up,
                 },
             );
         }
         RegisterFor::DisableQuad => {
             return go::ask(setup, opcode::REG_CONFIGURATION, Asked::QuadDisabled);
         }
-        RegisterFor::Unprotect { before, within } => return unprotected(setup, before, within),
+        RegisterFor::Unprotect { before, bring_up } => return unprotected(setup, before, bring_up),
     }
 }

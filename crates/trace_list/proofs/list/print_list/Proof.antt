@@ -1,7 +1,7 @@
 use Prim.Native.Nat.{_-_}
 use borrow.Author.Needs.{needs}
-use Rattle.trace_io.proofs.list.print_list.Statement.{statement}
-use Rattle.trace_io.proofs.list.print_list.Tie as tie
+use Rattle.trace_list.proofs.list.print_list.Statement.{statement}
+use Rattle.trace_list.proofs.list.print_list.Tie as tie
 
 -- the loop keeps nothing but its count
 abbrev Inv-loop : tie.InvT-loop

@@ -2,8 +2,8 @@ use Prim.Native.Nat.{_-_}
 use lib.ListN.{length}
 use mathlib.Core.Path.{_≡_}
 use borrow.Author.Needs.{needs}
-use Rattle.trace_io.proofs.program.print_case.Statement.{statement}
-use Rattle.trace_io.proofs.program.print_case.Tie as tie
+use Rattle.trace_program.proofs.program.print_case.Statement.{statement}
+use Rattle.trace_program.proofs.program.print_case.Tie as tie
 
 abbrev Inv-loop : tie.InvT-loop
 Inv-loop text room₀ reply₀ out₀ scratch₀ now₀ most i₀ room reply out scratch now i = (length scratch ≡ 264) × (length room ≡ length room₀) × (length reply ≡ length reply₀) × (length out ≡ length out₀)
