@@ -15,10 +15,13 @@ const MARK_LEN: usize = 2;
 // No list has more cases.
 const CASES_MOST: usize = 1000;
 
+// No list is longer.
+const INPUT: usize = 262144;
+
 // No case takes or prints more.
 const MOST: usize = 65536;
 
-// The memory is lent as arrays: only their length is asked for then.
+// Here and below the memory is lent as arrays: only their length is asked for then.
 fn print(
     kind: Kind,
     text: &[u8],
@@ -39,10 +42,9 @@ fn show(kind: Kind, text: &[u8]) {
     print(kind, text, &mut room, &mut reply, &mut out);
 }
 
-pub fn print_list(kind: Kind) {
-    let mut input = [0u8; 262144];
-    let n = io::read_full(STDIN, &mut input);
-    let mut left = bytes::delivered(&input, n);
+fn print_cases(kind: Kind, input: &mut [u8; INPUT]) {
+    let n = io::read_full(STDIN, input);
+    let mut left = bytes::delivered(input, n);
     let mut i = 0;
     while i < CASES_MOST {
         if left.len() == 0 {
@@ -53,4 +55,9 @@ pub fn print_list(kind: Kind) {
         left = word::behind(word::behind(left, len), MARK_LEN);
         i += 1;
     }
+}
+
+pub fn print_list(kind: Kind) {
+    let mut input = [0u8; INPUT];
+    print_cases(kind, &mut input);
 }

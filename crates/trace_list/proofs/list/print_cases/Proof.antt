@@ -1,7 +1,7 @@
 use Prim.Native.Nat.{_-_}
 use borrow.Author.Needs.{needs}
-use Rattle.trace_list.proofs.list.print_list.Statement.{statement}
-use Rattle.trace_list.proofs.list.print_list.Tie as tie
+use Rattle.trace_list.proofs.list.print_cases.Statement.{statement}
+use Rattle.trace_list.proofs.list.print_cases.Tie as tie
 
 -- the loop keeps nothing but its count
 abbrev Inv-loop : tie.InvT-loop
@@ -10,14 +10,8 @@ Inv-loop kind n left₀ i₀ left i = Unit {0}
 abbrev μ-loop : tie.MeasureT-loop
 μ-loop kind n left₀ i₀ left i = 1000 - i
 
-slice-aggregate-read-full : tie.Need-slice-aggregate-read-full Inv-loop μ-loop
-slice-aggregate-read-full c = search needs
-
 read-full-requires : tie.Need-read-full-requires Inv-loop μ-loop
 read-full-requires c κs = search needs
-
-slice-aggregate-delivered : tie.Need-slice-aggregate-delivered Inv-loop μ-loop
-slice-aggregate-delivered c = search needs
 
 delivered-requires : tie.Need-delivered-requires Inv-loop μ-loop
 delivered-requires c κs = search needs
@@ -55,5 +49,5 @@ loop-again c = search needs
 returns-2 : tie.Need-returns-2 Inv-loop μ-loop
 returns-2 c = search needs
 
-pub print-list-spec : {M : Type 1} → statement M
-print-list-spec = tie.close (tie.spec Inv-loop μ-loop slice-aggregate-read-full read-full-requires slice-aggregate-delivered delivered-requires loop-holds returns before-requires delivered-requires-2 show-requires behind-requires behind-requires-2 add-i loop-less loop-again returns-2)
+pub print-cases-spec : {M : Type 1} → statement M
+print-cases-spec = tie.close (tie.spec Inv-loop μ-loop read-full-requires delivered-requires loop-holds returns before-requires delivered-requires-2 show-requires behind-requires behind-requires-2 add-i loop-less loop-again returns-2)
