@@ -24,14 +24,14 @@ abbrev pub notBuilt : Kind → Flash
 notBuilt Kind.Nor = Flash.Nor norCall.notBuilt
 notBuilt Kind.Nand = Flash.Nand nandCall.notBuilt
 
--- turned away: nothing has changed
-abbrev pub refusedOf : Flash → FlashError → Stepped
-refusedOf flash error = record { flash = flash; given = Given.Refused error }
-
 -- how many bytes the last call begun has read
 abbrev pub countOf : Flash → ℕ
 countOf (Flash.Nor flash) = flash .delivered
 countOf (Flash.Nand flash) = flash .delivered
+
+-- turned away: nothing has changed
+abbrev pub refusedOf : Flash → FlashError → Stepped
+refusedOf flash error = record { flash = flash; given = Given.Refused error; delivered = countOf flash }
 
 -- ---- what the one or the other has given
 
@@ -48,10 +48,10 @@ nandGiven (nandGives.Given.Failed error) = Given.Failed error
 nandGiven (nandGives.Given.Refused error) = Given.Refused error
 
 abbrev pub norStepped : norState.Stepped → Stepped
-norStepped x = record { flash = Flash.Nor (x .flash); given = norGiven (x .given) }
+norStepped x = record { flash = Flash.Nor (x .flash); given = norGiven (x .given); delivered = x .flash .delivered }
 
 abbrev pub nandStepped : nandState.Stepped → Stepped
-nandStepped x = record { flash = Flash.Nand (x .flash); given = nandGiven (x .given) }
+nandStepped x = record { flash = Flash.Nand (x .flash); given = nandGiven (x .given); delivered = x .flash .delivered }
 
 -- ---- a call, with the lengths of what is lent: scratch, buffer, data
 

@@ -23,6 +23,15 @@ pub fn not_built(kind: Kind) -> Flash
     }
 }
 
+fn count(flash: Flash) -> usize
+    ensures { λ r. ⌜ r ≡ countOf flash ⌝ }
+{
+    match flash {
+        Flash::Nor(nor) => nor.delivered,
+        Flash::Nand(nand) => nand.delivered,
+    }
+}
+
 // The state unchanged, and why.
 pub fn refused(flash: Flash, error: FlashError) -> Stepped
     ensures { λ r. ⌜ r ≡ refusedOf flash error ⌝ }
@@ -30,16 +39,7 @@ pub fn refused(flash: Flash, error: FlashError) -> Stepped
     Stepped {
         flash: flash,
         given: Given::Refused(error),
-    }
-}
-
-// How many bytes the last call begun has put into the caller's buffer.
-pub fn count(flash: Flash) -> usize
-    ensures { λ r. ⌜ r ≡ countOf flash ⌝ }
-{
-    match flash {
-        Flash::Nor(nor) => nor.delivered,
-        Flash::Nand(nand) => nand.delivered,
+        delivered: count(flash),
     }
 }
 
@@ -75,6 +75,7 @@ fn nor_stepped(stepped: nor_driver::state::Stepped) -> Stepped
     Stepped {
         flash: Flash::Nor(flash),
         given: nor_given(given),
+        delivered: flash.delivered,
     }
 }
 
@@ -86,6 +87,7 @@ fn nand_stepped(stepped: nand_driver::state::Stepped) -> Stepped
     Stepped {
         flash: Flash::Nand(flash),
         given: nand_given(given),
+        delivered: flash.delivered,
     }
 }
 

@@ -38,4 +38,6 @@ pub enum Given {
 pub struct Stepped {
     pub flash: Flash,
     pub given: Given,
+    // How many bytes the last call begun has put into the caller's buffer.
+    pub delivered: usize,
 }

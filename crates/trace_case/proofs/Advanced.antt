@@ -3,7 +3,7 @@ use Prim.Native.Nat.{ℕ}
 use mathlib.Core.List.{List}
 use mathlib.Core.Path.{_≡_}
 use Rattle.lines.specs.Text.{Text, textOf}
-use Rattle.flash.specs.Drive.{countOf, movedTo}
+use Rattle.flash.specs.Drive.{movedTo}
 use Rattle.flash.specs.declared.state.Stepped.{Stepped}
 use Rattle.flash_lent.specs.Lent.{askedOver}
 use Rattle.flash_turns.specs.Turn.{takesTo, turnOf}
@@ -12,12 +12,11 @@ use Rattle.trace_case.specs.Advance.{turnedTo, advancedOf}
 use Rattle.trace_case.specs.State.{tracedBy}
 use Rattle.trace_case.specs.declared.state.Trace.{Trace}
 
-pub advanced : (trace : Trace) (text scratch room reply : List ℕ) (out : Text) (n : ℕ) (turn : Turn) (room₁ reply₁ out₁ : List ℕ) (stepped : Stepped) (scratch₂ room₂ : List ℕ) (r : Trace) →
-    n ≡ countOf (trace .stepped .flash) →
-    takesTo (turn .settings) (turn .place) (turn .ask) room₁ reply₁ (textOf out₁ (turn .at)) ≡ turnOf (trace .settings) (trace .place) (trace .stepped .given) n text scratch room reply out →
+pub advanced : (trace : Trace) (text scratch room reply : List ℕ) (out : Text) (turn : Turn) (room₁ reply₁ out₁ : List ℕ) (stepped : Stepped) (scratch₂ room₂ : List ℕ) (r : Trace) →
+    takesTo (turn .settings) (turn .place) (turn .ask) room₁ reply₁ (textOf out₁ (turn .at)) ≡ turnOf (trace .settings) (trace .place) (trace .stepped .given) (trace .stepped .delivered) text scratch room reply out →
     movedTo stepped scratch₂ room₂ ≡ askedOver (trace .stepped) (turn .ask) scratch room₁ reply₁ →
     r ≡ tracedBy turn stepped →
     turnedTo r scratch₂ room₂ reply₁ (textOf out₁ (turn .at)) ≡ advancedOf trace text scratch room reply out
 unfolding advancedOf
-advanced trace text scratch room reply out n turn room₁ reply₁ out₁ stepped scratch₂ room₂ r count taken asked stood =
-    rw (stood, ← count, ← taken, ← asked)
+advanced trace text scratch room reply out turn room₁ reply₁ out₁ stepped scratch₂ room₂ r taken asked stood =
+    rw (stood, ← taken, ← asked)

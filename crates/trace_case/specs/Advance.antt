@@ -2,7 +2,7 @@
 use Prim.Native.Nat.{ℕ}
 use mathlib.Core.List.{List}
 use Rattle.lines.specs.Text.{Text}
-use Rattle.flash.specs.Drive.{Moved, countOf}
+use Rattle.flash.specs.Drive.{Moved}
 use Rattle.flash.specs.declared.state.Stepped.{Stepped}
 use Rattle.flash_lent.specs.Lent.{askedOver}
 use Rattle.flash_turns.specs.State.{begunIn}
@@ -34,4 +34,4 @@ turnedThen stepped scratch t = turnedBy t (askedOver stepped (t .ask) scratch (t
 unfoldable pub advancedOf : Trace → List ℕ → List ℕ → List ℕ → List ℕ → Text → Turned
 advancedOf trace text scratch room reply out =
     turnedThen (trace .stepped) scratch
-    (turnOf (trace .settings) (trace .place) (trace .stepped .given) (countOf (trace .stepped .flash)) text scratch room reply out)
+    (turnOf (trace .settings) (trace .place) (trace .stepped .given) (trace .stepped .delivered) text scratch room reply out)

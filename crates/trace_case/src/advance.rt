@@ -1,7 +1,6 @@
 // One turn of a trace, and what it asks of the driver.
 use crate::state;
 use crate::state::Trace;
-use flash::drive;
 use flash_lent::lent;
 use flash_turns::turn;
 ghost use mathlib.Core.Path.{_≡_};
@@ -21,16 +20,14 @@ pub fn advance(
     ensures { λ r. ⌜ turnedTo r (now (scratch .exit)) (now (room .exit)) (now (reply .exit)) (textOf (now (out .exit)) (now (at .exit))) ≡ advancedOf trace (now (text .entry)) (now (scratch .entry)) (now (room .entry)) (now (reply .entry)) (textOf (now (out .entry)) (now (at .entry))) ⌝ }
 {
     let stepped = trace.stepped;
-    let flash = stepped.flash;
     let given = stepped.given;
     let settings = trace.settings;
     let place = trace.place;
-    let n = drive::count(flash);
     let turn = turn::turn(
         settings,
         place,
         given,
-        n,
+        stepped.delivered,
         text,
         scratch,
         room,

@@ -3,9 +3,6 @@ use borrow.Author.Needs.{needs}
 use Rattle.trace_case.proofs.advance.advance.Statement.{statement}
 use Rattle.trace_case.proofs.advance.advance.Tie as tie
 
-count-requires : tie.Need-count-requires
-count-requires c κs = search needs
-
 turn-requires : tie.Need-turn-requires
 turn-requires c κs = search needs
 
@@ -31,14 +28,12 @@ returns : tie.Need-returns
 returns c =
     let asked = c .before .before .before .before .before in
     let turn = asked .before .before .before .before .before .before .before .before .before .before in
-    let count = turn .before .before .before .before .before .before in
-    advanced _ _ _ _ _ _ _ _ _ _ _ _ _ _ _ (count .count .ensures) (turn .turn .ensures) (asked .asked .ensures) (c .traced-by .ensures)
+    advanced _ _ _ _ _ _ _ _ _ _ _ _ _ _ (turn .turn .ensures) (asked .asked .ensures) (c .traced-by .ensures)
 
 pub advance-spec : {M : Type 1} → statement M
 advance-spec =
     tie.close
     (tie.spec
-    count-requires
     turn-requires
     asked-requires
     traced-by-requires
