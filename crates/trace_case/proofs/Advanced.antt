@@ -9,8 +9,8 @@ use Rattle.flash_lent.specs.Lent.{askedOver}
 use Rattle.flash_turns.specs.Turn.{takesTo, turnOf}
 use Rattle.flash_turns.specs.declared.state.Turn.{Turn}
 use Rattle.trace_case.specs.Advance.{turnedTo, advancedOf}
-use Rattle.trace_case.specs.State.{tracedBy}
-use Rattle.trace_case.specs.declared.state.Trace.{Trace}
+use Rattle.trace_state.specs.State.{tracedBy}
+use Rattle.trace_state.specs.declared.state.Trace.{Trace}
 
 pub advanced : (trace : Trace) (text scratch room reply : List ℕ) (out : Text) (turn : Turn) (room₁ reply₁ out₁ : List ℕ) (stepped : Stepped) (scratch₂ room₂ : List ℕ) (r : Trace) →
     takesTo (turn .settings) (turn .place) (turn .ask) room₁ reply₁ (textOf out₁ (turn .at)) ≡ turnOf (trace .settings) (trace .place) (trace .stepped .given) (trace .stepped .delivered) text scratch room reply out →

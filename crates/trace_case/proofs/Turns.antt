@@ -9,9 +9,9 @@ use Rattle.lines.specs.Text.{textOf}
 use Rattle.trace_turns.specs.Budget.{budgetOf}
 use Rattle.flash.specs.declared.state.Kind.{Kind}
 use Rattle.trace_case.specs.Advance.{Turned, turnedTo}
-use Rattle.trace_case.specs.State.{startOf, overAt}
+use Rattle.trace_state.specs.State.{startOf, overAt}
 use Rattle.trace_case.specs.Case.{turnAfter, turnsOf, caseOf}
-use Rattle.trace_case.specs.declared.state.Trace.{Trace}
+use Rattle.trace_state.specs.declared.state.Trace.{Trace}
 
 pub turn-taken : (most i : ℕ) (text : List ℕ) (t : Turned) → i < most → overAt (t .trace) ≡ false →
     turnsOf (most - (i + 1)) text (turnAfter text t) ≡ turnsOf (most - i) text t

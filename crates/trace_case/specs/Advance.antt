@@ -7,8 +7,8 @@ use Rattle.flash.specs.declared.state.Stepped.{Stepped}
 use Rattle.flash_lent.specs.Lent.{askedOver}
 use Rattle.flash_turns.specs.State.{begunIn}
 use Rattle.flash_turns.specs.Turn.{Takes, turnOf}
-use Rattle.trace_case.specs.State.{traceOf}
-use Rattle.trace_case.specs.declared.state.Trace.{Trace}
+use Rattle.trace_state.specs.State.{traceOf}
+use Rattle.trace_state.specs.declared.state.Trace.{Trace}
 
 -- a trace, the lent bytes and what was printed, after a turn
 pub record Turned : Type 0 where

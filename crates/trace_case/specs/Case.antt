@@ -7,7 +7,7 @@ use Rattle.lines.specs.Text.{Text, textOf}
 use Rattle.flash.specs.declared.state.Kind.{Kind}
 use Rattle.trace_turns.specs.Budget.{budgetOf}
 use Rattle.trace_case.specs.Advance.{Turned, turnedTo, advancedOf}
-use Rattle.trace_case.specs.State.{startOf, overAt}
+use Rattle.trace_state.specs.State.{startOf, overAt}
 
 abbrev pub turnAfter : List ℕ → Turned → Turned
 turnAfter text t = advancedOf (t .trace) text (t .scratch) (t .room) (t .reply) (t .text)

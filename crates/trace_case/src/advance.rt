@@ -1,8 +1,8 @@
 // One turn of a trace, and what it asks of the driver.
-use crate::state;
-use crate::state::Trace;
 use flash_lent::lent;
 use flash_turns::turn;
+use trace_state::state;
+use trace_state::state::Trace;
 ghost use mathlib.Core.Path.{_≡_};
 ghost use Rattle.lines.specs.Text.{textOf};
 ghost use Rattle.trace_case.specs.Advance.{turnedTo, advancedOf};

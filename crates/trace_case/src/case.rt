@@ -1,7 +1,7 @@
 // The trace of a whole case.
 use crate::advance;
-use crate::state;
 use flash::state::Kind;
+use trace_state::state;
 use trace_turns::budget;
 ghost use mathlib.Core.Path.{_≡_};
 ghost use Rattle.lines.specs.Text.{textOf};

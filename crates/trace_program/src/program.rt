@@ -2,7 +2,7 @@
 use flash::state::Kind;
 use qspi::bytes;
 use trace_case::advance;
-use trace_case::state;
+use trace_state::state;
 use trace_turns::budget;
 
 const STDIN: i32 = 0;

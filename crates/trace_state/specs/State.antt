@@ -11,7 +11,7 @@ use Rattle.dialect.specs.Settings.{noneOf}
 use Rattle.dialect.specs.declared.settings.Settings.{Settings}
 use Rattle.flash_turns.specs.State.{begunIn}
 use Rattle.flash_turns.specs.declared.state.Turn.{Turn}
-use Rattle.trace_case.specs.declared.state.Trace.{Trace}
+use Rattle.trace_state.specs.declared.state.Trace.{Trace}
 
 abbrev pub traceOf : Stepped → Settings → Place → Trace
 traceOf stepped settings place = record { stepped = stepped; settings = settings; place = place }

@@ -1,6 +1,6 @@
 use borrow.Author.Needs.{needs}
-use Rattle.trace_case.proofs.state.start.Statement.{statement}
-use Rattle.trace_case.proofs.state.start.Tie as tie
+use Rattle.trace_state.proofs.state.start.Statement.{statement}
+use Rattle.trace_state.proofs.state.start.Tie as tie
 
 not-built-requires : tie.Need-not-built-requires
 not-built-requires c κs = search needs

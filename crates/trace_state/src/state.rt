@@ -10,7 +10,7 @@ use spi_flash::error::FlashError;
 use trace_turns::place;
 use trace_turns::place::Place;
 ghost use mathlib.Core.Path.{_≡_};
-ghost use Rattle.trace_case.specs.State.{startOf, overAt, tracedBy};
+ghost use Rattle.trace_state.specs.State.{startOf, overAt, tracedBy};
 
 pub struct Trace {
     // The driver with what it gave last.

@@ -1,0 +1,2 @@
+// Where a trace stands, with its driver.
+pub mod state;
