@@ -32,7 +32,7 @@ isBusy idle = false
 isBusy (busy job) = true
 
 module _ {F S P A G : Type 0} (shape : Shape F S P A G) where
-  -- a step's gift, with what the struct holds behind it
+  -- what a step gives, with what the struct holds behind it
   abbrev pub lastOf : G → Given (Left S A)
   lastOf x = leavingIn (shape .setup (shape .after x)) (shape .given x)
 

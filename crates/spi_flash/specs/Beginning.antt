@@ -52,7 +52,7 @@ module _ {F S P A G C : Type 0} (shape : Shape F S P A G) (calls : Calls S P A C
       (shape .ended (shape .resting (shape .setup flash) false (shape .delivered flash)) (calls .done))
       (shape .refused flash FlashError.OutOfTurn)
 
-  -- any other that uses the bus: 13 where the driver is not built, 14 for a scratch under 264, 12 for a device outside the bounds
+  -- a use of the bus: 13 where the driver is not built, 14 for a scratch under 264, 12 for a device outside the bounds
   unfoldable pub begun : F → ℕ → Takes → Then S P A → G
   begun flash scratch takes then =
       pick (shape .built flash)

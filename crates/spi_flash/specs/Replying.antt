@@ -23,7 +23,7 @@ pub record Moved (G : Type 0) : Type 0 where
 abbrev pub movedTo : {G : Type 0} → G → List ℕ → List ℕ → Moved G
 movedTo x scratch buffer = record { stepped = x; scratch = scratch; buffer = buffer }
 
--- next is what follows a transfer
+-- over what follows each transfer of the driver
 module _ {F S P A G : Type 0} (shape : Shape F S P A G) (next : S → P → Outcome → Then S P A) where
   -- another action of the transfer that is out
   abbrev pub gave : F → Job P → Frame → ℕ → Action → G

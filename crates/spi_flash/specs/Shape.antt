@@ -1,5 +1,5 @@
 -- What both drivers are made of: a state in its parts, what a step gives, what follows a transfer and what a call is. Each driver
--- has structs and enums of its own for them; the step machine over them (Settling, Beginning, Replying) is said once.
+-- has structs and enums of its own for them; how a driver steps is said over them once (Settling, Beginning, Replying).
 use Prim.Native.Nat.{ℕ}
 use mathlib.Core.Bool.{Bool}
 use Rattle.frames.specs.declared.frame.Frame.{Frame}
