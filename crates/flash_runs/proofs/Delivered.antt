@@ -13,6 +13,7 @@ use Rattle.qspi.specs.declared.bus.Reply.{Reply}
 use Rattle.frames.specs.declared.frame.Outcome.{Outcome}
 use Rattle.frames.specs.declared.frame.Advanced.{Advanced}
 use Rattle.frames.specs.declared.frame.Frame.{Frame}
+use Rattle.spi_flash.specs.Settling as Settling
 use Rattle.spi_flash.specs.Loan.{Lent, readyFor}
 use Rattle.spi_flash.specs.Prog.{Prog}
 use Rattle.spi_flash.specs.Run.{Event, reply, call, System, goesOn, stateAfter}
@@ -66,7 +67,7 @@ module _ {S P A C : Type 0} (parts : Parts S P A C) (inBounds : S → Bool) (rea
 
     settled-counts : (es : List (Event C)) → Counts es → (setup : S) (mine : Bool) (n : ℕ) (running : Running P) (x : Then S P A) (l : Lent) →
         Onward Valid (decide x) → Fills reads len n (tree meaning (decide x)) → CountsBy es mine n [] (settled (flashOf setup built n running) k x l)
-    unfolding settled firstOf
+    unfolding Settling.settled firstOf
     settled-counts es ih s mine n running (General.go setup t phase) l w h = ih setup phase _ n (firstOf t) (record { valid = w; filling = first-filling reads len _ h })
     settled-counts es ih s mine n running (General.end setup answer) l w h = rest-counts setup true n mine es
     settled-counts es ih s mine n running (General.fail e) l w h = rest-counts s built n mine es
@@ -122,4 +123,4 @@ module _ {S P A C : Type 0} (parts : Parts S P A C) (inBounds : S → Bool) (rea
         (CountsBy es mine n (dataAt mine r bytes))
         (counts es s phase mine n f at)
         (λ g ready fits e. goes-counts es (counts es) s phase mine n f at r bytes l ready fits g e)
-        (λ o ready fits e. over-counts es (counts es) s phase mine n f at r bytes l ready fits o e _)
+        (λ o ready fits e. over-counts es (counts es) s phase mine n f at r bytes l ready fits o e l)

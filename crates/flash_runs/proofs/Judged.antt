@@ -14,17 +14,21 @@ use Rattle.qspi.specs.declared.bus.Action.{Action}
 use Rattle.qspi.specs.declared.bus.Reply.{Reply}
 use Rattle.frames.specs.Frame.{firstOf, actionOf, exchangeOf, advancedOf, takenIn, gave}
 use Rattle.frames.specs.declared.frame.Advanced.{Advanced}
+use Rattle.spi_flash.specs.Beginning as Beginning
+use Rattle.spi_flash.specs.Replying as Replying
+use Rattle.spi_flash.specs.Settling as Settling
 use Rattle.spi_flash.specs.Loan.{Lent, readyFor}
 use Rattle.spi_flash.specs.Run as Run
 use Rattle.spi_flash.specs.Run.{Event, reply, call, System, goesOn, runOf, begunWith, stateAfter}
-use Rattle.spi_flash.specs.Machine.{refusing}
+use Rattle.spi_flash.specs.Machine.{lentAs}
 use Rattle.spi_flash.specs.declared.error.FlashError.{FlashError}
 use Rattle.spi_flash.specs.declared.loan.Takes.{Takes}
 use Rattle.qspi.proofs.Cases.{by-cases}
 use Rattle.flash_runs.specs.Driver.{Left, Sort, takesOf, worksOn, Driver, sortAt, takesAt, flashAfter}
 use Rattle.flash_runs.specs.Refusals.{restRefusal, RefusedAs, awaits, outThen, outAfter, replyRefusal, refusalIn, RefusesJust}
+use Rattle.flash_runs.specs.System.{leftWith}
 use Rattle.flash_runs.proofs.General as General
-use Rattle.flash_runs.proofs.General.{Then, Opening, constructing, telling, releasing, working, Parts, Job, Running, idle, busy, isBusy, Flash, flashOf, Step, settled, told, opened, freed, constructed, begun, openedAs, afterwards, proceeds, general}
+use Rattle.flash_runs.proofs.General.{Then, Opening, constructing, telling, releasing, working, Parts, Job, Running, idle, busy, isBusy, Flash, flashOf, Stepped, plain, Step, settled, told, opened, freed, constructed, begun, openedAs, afterwards, proceeds, general}
 use Rattle.flash_runs.proofs.Supplies.{OpensAs, Known}
 use Rattle.flash_runs.proofs.Steps.{step-view}
 use Rattle.flash_runs.proofs.Runs.{viewed, same-run, same-state}
@@ -57,7 +61,7 @@ module _ {S P A C : Type 0} (parts : Parts S P A C) (inBounds : S → Bool) (tak
   AwaitingBy before m = Awaiting (m .flash .running) (outThen (m .given) before)
 
   settled-awaiting : (flash : Flash S P) (own : Takes) (x : Then S P A) (l : Lent) (before : Option Shown) → own ≡ takes → AwaitingBy before (settled flash own x l)
-  unfolding settled
+  unfolding Settling.settled
   settled-awaiting flash own (General.go s t phase) l before e = (e, shown-awaits (actionOf (firstOf t)) (l .scratch) (l .given))
   settled-awaiting flash own (General.end s answer) l before e = tt
   settled-awaiting flash own (General.fail error) l before e = tt
@@ -75,12 +79,12 @@ module _ {S P A C : Type 0} (parts : Parts S P A C) (inBounds : S → Bool) (tak
         step-view parts (at (busy job)) job r bytes l (AwaitingBy (some shown))
         h
         (λ g ready fits e. (h .0, shown-awaits (actionOf g) _ _))
-        (λ o ready fits e. settled-awaiting (at (busy job)) (job .takes) (parts .next setup (job .phase) o) _ (some shown) (h .0))
+        (λ o ready fits e. settled-awaiting (at (busy job)) (job .takes) (parts .next setup (job .phase) o) l (some shown) (h .0))
 
     -- ---- why it is refused
 
     settled-taken : (own : Takes) (x : Then S P A) (l : Lent) (flash : Flash S P) → refusalIn (settled flash own x l .given) ≡ none
-    unfolding settled
+    unfolding Settling.settled
     settled-taken own (General.go s t phase) l flash = refl
     settled-taken own (General.end s answer) l flash = refl
     settled-taken own (General.fail error) l flash = refl
@@ -88,13 +92,13 @@ module _ {S P A C : Type 0} (parts : Parts S P A C) (inBounds : S → Bool) (tak
     taken : (job : Job P) (n : ℕ) (x : Advanced) (scratch buffer : List ℕ) (l : Lent) →
         refusalIn (afterwards parts (at (busy job)) job n (gave x scratch buffer) l .given) ≡ none
     taken job n (Advanced.More g) scratch buffer l = refl
-    taken job n (Advanced.Over o) scratch buffer l = settled-taken (job .takes) (parts .next setup (job .phase) o) _ (at (busy job))
+    taken job n (Advanced.Over o) scratch buffer l = settled-taken (job .takes) (parts .next setup (job .phase) o) (lentAs scratch buffer l) (at (busy job))
 
     abbrev Judges : Running P → Option Shown → Type 0
     Judges running before = (r : Reply) (bytes : List ℕ) (l : Lent) → refusalIn (system .answer (at running) r bytes l .given) ≡ replyRefusal before takes l r (length bytes)
 
     busy-judged : (job : Job P) (shown : Shown) → Awaiting (busy job) (some shown) → Judges (busy job) (some shown)
-    unfolding proceeds exchangeOf fitsOf
+    unfolding Replying.proceeds exchangeOf fitsOf
     busy-judged job shown h r bytes l =
         rw (sym (h .0), h .1)
         (by-cases (readyFor (job .takes) l)
@@ -138,19 +142,19 @@ module _ {S P A C : Type 0} (parts : Parts S P A C) (inBounds : S → Bool) (tak
   takesIn releasing = Takes.Nothing
   takesIn (working own then) = own
 
-  picked : (b : Bool) (x y : Step S P A) → AwaitingBy none x → AwaitingBy none y → AwaitingBy none (pick b x y)
-  picked true x y h k = h
-  picked false x y h k = k
-
   module _ (setup : S) (built : Bool) (delivered : ℕ) (l : Lent) where
+    picked : (b : Bool) (x y : Stepped S P A) → AwaitingBy none (leftWith plain x l) → AwaitingBy none (leftWith plain y l) → AwaitingBy none (leftWith plain (pick b x y) l)
+    picked true x y h k = h
+    picked false x y h k = k
+
     opened-awaiting : (own : Takes) (x : Then S P A) → own ≡ takes → AwaitingBy none (opened (at setup built delivered idle) own x l)
-    unfolding opened
+    unfolding Beginning.opened
     opened-awaiting own (General.go s t phase) e = settled-awaiting _ own (General.go s t phase) l none e
     opened-awaiting own (General.end s answer) e = settled-awaiting _ own (General.end s answer) l none e
     opened-awaiting own (General.fail error) e = tt
 
     begin-awaiting : (x : Opening S P A) → takesIn x ≡ takes → AwaitingBy none (openedAs parts inBounds (at setup built delivered idle) x l)
-    unfolding constructed told freed begun
+    unfolding Beginning.atRest Beginning.constructed Beginning.told Beginning.freed Beginning.begun
     begin-awaiting (constructing fresh) e =
         picked (ltb (length (l .scratch)) scratchLeast) _ _ tt (picked (inBounds fresh) _ _ (settled-awaiting _ Takes.Nothing _ l none e) tt)
     begin-awaiting (telling answer) e = picked built _ _ tt tt
@@ -209,19 +213,22 @@ module _ {F C S A : Type 0} {driver : Driver F C S A} (known : Known driver) whe
     Refuses x sort =
         RefusedAs (restRefusal sort built (length (l .scratch)) (driver .inBounds (worksOn sort setup))) (openedAs parts (driver .inBounds) there x l .given)
 
-    picked-host : (short inside : Bool) (x : Step S P A) → RefusedAs (pick short (some FlashError.Misfit) (pick inside none (some FlashError.InvalidGeometry)))
-        (pick short (refusing FlashError.Misfit there l) (pick inside x (refusing FlashError.InvalidGeometry there l)) .given)
+    abbrev refusedWith : FlashError → Stepped S P A
+    refusedWith error = plain .refused there error
+
+    picked-host : (short inside : Bool) (x : Stepped S P A) → RefusedAs (pick short (some FlashError.Misfit) (pick inside none (some FlashError.InvalidGeometry)))
+        (leftWith plain (pick short (refusedWith FlashError.Misfit) (pick inside x (refusedWith FlashError.InvalidGeometry))) l .given)
     picked-host true inside x = refl
     picked-host false true x = tt
     picked-host false false x = refl
 
-    picked-built : (b : Bool) (why : Option FlashError) (x : Step S P A) → RefusedAs why (x .given) →
-        RefusedAs (pick b why (some FlashError.OutOfTurn)) (pick b x (refusing FlashError.OutOfTurn there l) .given)
+    picked-built : (b : Bool) (why : Option FlashError) (x : Stepped S P A) → RefusedAs why (leftWith plain x l .given) →
+        RefusedAs (pick b why (some FlashError.OutOfTurn)) (leftWith plain (pick b x (refusedWith FlashError.OutOfTurn)) l .given)
     picked-built true why x h = h
     picked-built false why x h = refl
 
     rest-refuses : (x : Opening S P A) → Knows setup c l x → Refuses x (sortAt driver c l)
-    unfolding constructed told freed begun
+    unfolding Beginning.atRest Beginning.constructed Beginning.told Beginning.freed Beginning.begun
     rest-refuses (constructing fresh) k = rw (k .sorted) (picked-host (ltb (length (l .scratch)) scratchLeast) (driver .inBounds fresh) _)
     rest-refuses (telling answer) k = rw (k .sorted) (picked-built built none _ tt)
     rest-refuses releasing k = rw (k .sorted) (picked-built built none _ tt)

@@ -11,6 +11,7 @@ use Rattle.qspi.specs.Command.{scratchLeast}
 use Rattle.frames.specs.Frame.{firstOf}
 use Rattle.qspi.specs.declared.transfer.Transfer.{Transfer}
 use Rattle.frames.specs.declared.frame.Outcome.{Outcome}
+use Rattle.spi_flash.specs.Settling as Settling
 use Rattle.spi_flash.specs.Loan.{Lent}
 use Rattle.spi_flash.specs.Run.{Event, reply, call, System, goesOn, atOnce, callOf, stateAfter}
 use Rattle.spi_flash.specs.Seen.{toldThen, told}
@@ -62,7 +63,7 @@ module _ {S P A C : Type 0} (parts : Parts S P A C) (inBounds : S → Bool) wher
 
   settled-makes : (es : List (Event C)) → Makes es → (setup : S) (delivered : ℕ) (running : Running P) (takes : Takes) (x : Then S P A) (l : Lent) →
       MakesBy es (settled (flashOf setup false delivered running) takes x l)
-  unfolding settled
+  unfolding Settling.settled
   settled-makes es ih s n running takes (General.go setup t phase) l = ih setup n (jobOf phase (firstOf t) takes)
   settled-makes es ih s n running takes (General.end setup answer) l = rw (rest-state setup true n es) refl
   settled-makes es ih s n running takes (General.fail e) l = rw (rest-state s false n es) refl
@@ -86,7 +87,7 @@ module _ {S P A C : Type 0} (parts : Parts S P A C) (inBounds : S → Bool) wher
 
     settled-keeps : (es : List (Event C)) → Keeps es → (delivered : ℕ) (running : Running P) (takes : Takes) (x : Then S P A) (l : Lent) → Stays Built s x →
         made-in (stateAfter system (settled (flashOf s true delivered running) takes x l .flash) es) ≡ some s
-    unfolding settled
+    unfolding Settling.settled
     settled-keeps es ih n running takes (General.go setup t phase) l h = rw (h .0) (ih n (jobOf phase (firstOf t) takes) (h .1))
     settled-keeps es ih n running takes (General.end setup answer) l h = rw (rest-state setup true n es) (ap some h)
     settled-keeps es ih n running takes (General.fail e) l h = rw (rest-state s true n es) refl
@@ -100,7 +101,7 @@ module _ {S P A C : Type 0} (parts : Parts S P A C) (inBounds : S → Bool) wher
         (λ m. made-in (stateAfter system (m .flash) es) ≡ some s)
         (keeps es n job h)
         (λ g ready fits is. keeps es _ (jobOf (job .phase) g (job .takes)) h)
-        (λ o ready fits is. settled-keeps es (keeps es) n (busy job) (job .takes) (parts .next s (job .phase) o) _ (stays (job .phase) o h))
+        (λ o ready fits is. settled-keeps es (keeps es) n (busy job) (job .takes) (parts .next s (job .phase) o) l (stays (job .phase) o h))
 
 -- ---- every call
 
@@ -169,7 +170,7 @@ module _ {F C S A : Type 0} {driver : Driver F C S A} (known : Known driver) whe
     began-left at built first (serving takes k present stays) h = used (at .setup) built (jobOf (at .phase) (firstOf first) (takesAt driver c l)) takes h k present stays
 
     opened-left : Opens known viewing c l → Usable driver flash c l → Leaves
-    unfolding settled
+    unfolding Settling.settled
     opened-left o h = left-of _ (o .is) (began-left (o .at) (o .built) (o .first) (o .began) h)
 
     pub left : Usable driver flash c l → Leaves

@@ -10,6 +10,7 @@ use Rattle.frames.specs.Frame.{firstOf, actionOf}
 use Rattle.qspi.specs.Shown.{shownOf}
 use Rattle.frames.specs.declared.frame.Outcome.{Outcome}
 use Rattle.frames.specs.declared.frame.Stage.{Stage}
+use Rattle.spi_flash.specs.Settling as Settling
 use Rattle.spi_flash.specs.Loan.{Lent}
 use Rattle.spi_flash.specs.Path.{Bounded}
 use Rattle.spi_flash.specs.Prog.{Prog, ask}
@@ -106,7 +107,7 @@ module _ {F C S A : Type 0} {driver : Driver F C S A} (known : Known driver) (fl
           )
 
       opened-delivers : known .is .count (flashAfter driver flash c l es) ≡ length (bytesRead reads false (runAt driver flash c l es))
-      unfolding bytesRead settled firstOf
+      unfolding bytesRead Settling.settled firstOf
       opened-delivers =
           ap (λ g. g .delivered) (same-state driver parts (known .is) flash c l es)
           ∙ ap (λ m. stateAfter (general parts (driver .inBounds)) (m .flash) es .delivered) (o .is)

@@ -3,6 +3,7 @@ pub mod Filling
 pub mod Quiet
 pub mod Buffer
 pub mod Supplies
+pub mod Shapes
 pub mod Asking
 pub mod Steps
 pub mod Runs

@@ -10,14 +10,17 @@ use Rattle.qspi.specs.Choice.{pick}
 use Rattle.qspi.specs.Command.{scratchLeast}
 use Rattle.qspi.specs.Shown.{Shown}
 use Rattle.qspi.specs.declared.bus.Reply.{Reply}
+use Rattle.spi_flash.specs.Beginning as Beginning
+use Rattle.spi_flash.specs.Settling as Settling
 use Rattle.spi_flash.specs.Loan.{Lent}
 use Rattle.spi_flash.specs.Run as Run
 use Rattle.spi_flash.specs.declared.error.FlashError.{FlashError}
 use Rattle.spi_flash.specs.declared.loan.Takes.{Takes}
 use Rattle.flash_runs.specs.Driver.{Left, Driver}
 use Rattle.flash_runs.specs.Promises.{RefusalsKeep}
+use Rattle.flash_runs.specs.System.{leftWith}
 use Rattle.flash_runs.proofs.General as General
-use Rattle.flash_runs.proofs.General.{Then, Opening, constructing, telling, releasing, working, Parts, Job, Running, idle, busy, Flash, Step, settled, told, opened, freed, constructed, begun, openedAs, proceeds, answerAt, beginAt}
+use Rattle.flash_runs.proofs.General.{Then, Opening, constructing, telling, releasing, working, Parts, Job, Running, idle, busy, Flash, Stepped, plain, Step, settled, told, opened, freed, constructed, begun, openedAs, proceeds, answerAt, beginAt}
 use Rattle.flash_runs.proofs.Supplies.{Alike, Is}
 use Rattle.flash_runs.proofs.Steps.{step-view}
 use Rattle.flash_runs.proofs.Runs.{viewed}
@@ -38,22 +41,22 @@ module _ {S P A : Type 0} where
   Keeps : Flash S P → Lent → Step S P A → Type 0
   Keeps flash l m = (e : FlashError) → m .given ≡ Run.refused e → (m .flash ≡ flash) × (m .left ≡ l)
 
-  kept-pick : (flash : Flash S P) (l : Lent) (b : Bool) (x y : Step S P A) → Keeps flash l x → Keeps flash l y → Keeps flash l (pick b x y)
+  kept-pick : (flash : Flash S P) (l : Lent) (b : Bool) (x y : Stepped S P A) → Keeps flash l (leftWith plain x l) → Keeps flash l (leftWith plain y l) → Keeps flash l (leftWith plain (pick b x y) l)
   kept-pick flash l true x y h k = h
   kept-pick flash l false x y h k = k
 
   settled-kept : (flash kept : Flash S P) (takes : Takes) (x : Then S P A) (l k : Lent) → Keeps kept k (settled flash takes x l)
-  unfolding Keeps settled
+  unfolding Keeps Settling.settled
   settled-kept flash kept takes (General.go s t p) l k e h = absurd (acts-not _ e h)
   settled-kept flash kept takes (General.end s a) l k e h = absurd (ends-not _ e h)
   settled-kept flash kept takes (General.fail x) l k e h = absurd (fails-not x e h)
 
   told-kept : (flash : Flash S P) (answer : A) (l : Lent) → Keeps flash l (told flash answer l)
-  unfolding Keeps told
+  unfolding Keeps Beginning.told
   told-kept flash answer l = kept-pick flash l (flash .built) _ _ (λ e h. absurd (ends-not _ e h)) (λ e h. (refl, refl))
 
   opened-kept : (flash : Flash S P) (takes : Takes) (x : Then S P A) (l : Lent) → Keeps flash l (opened flash takes x l)
-  unfolding Keeps opened
+  unfolding Keeps Beginning.opened
   opened-kept flash takes (General.go s t p) l = settled-kept _ flash takes (General.go s t p) l l
   opened-kept flash takes (General.end s a) l = settled-kept _ flash takes (General.end s a) l l
   opened-kept flash takes (General.fail x) l = λ e h. (refl, refl)
@@ -74,13 +77,13 @@ module _ {S P A : Type 0} where
     reply-kept (busy job) flash r bytes l = busy-kept flash job r bytes l
 
     -- a call
-    freed-kept : (flash : Flash S P) (l : Lent) → Keeps flash l (freed parts flash l)
-    unfolding Keeps freed
-    freed-kept flash l = kept-pick flash l (flash .built) _ _ (λ e h. absurd (ends-not _ e h)) (λ e h. (refl, refl))
-
     module _ (inBounds : S → Bool) where
+      freed-kept : (flash : Flash S P) (l : Lent) → Keeps flash l (freed parts inBounds flash l)
+      unfolding Keeps Beginning.freed
+      freed-kept flash l = kept-pick flash l (flash .built) _ _ (λ e h. absurd (ends-not _ e h)) (λ e h. (refl, refl))
+
       begun-kept : (flash : Flash S P) (takes : Takes) (x : Then S P A) (l : Lent) → Keeps flash l (begun parts inBounds flash takes x l)
-      unfolding Keeps begun
+      unfolding Keeps Beginning.begun
       begun-kept flash takes x l =
           kept-pick flash l (flash .built) _ _
           (kept-pick flash l (ltb (length (l .scratch)) scratchLeast) _ _ (λ e h. (refl, refl))
@@ -88,12 +91,13 @@ module _ {S P A : Type 0} where
           (λ e h. (refl, refl))
 
       constructed-kept : (flash : Flash S P) (fresh : S) (l : Lent) → Keeps flash l (constructed parts inBounds flash fresh l)
-      unfolding Keeps constructed
+      unfolding Keeps Beginning.constructed
       constructed-kept flash fresh l =
           kept-pick flash l (ltb (length (l .scratch)) scratchLeast) _ _ (λ e h. (refl, refl))
           (kept-pick flash l (inBounds fresh) _ _ (settled-kept _ flash Takes.Nothing _ l l) (λ e h. (refl, refl)))
 
       opening-kept : (flash : Flash S P) (x : Opening S P A) (l : Lent) → Keeps flash l (openedAs parts inBounds flash x l)
+      unfolding Beginning.atRest
       opening-kept flash (constructing fresh) l = constructed-kept flash fresh l
       opening-kept flash (telling answer) l = told-kept flash answer l
       opening-kept flash releasing l = freed-kept flash l

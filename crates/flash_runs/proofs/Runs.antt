@@ -9,6 +9,8 @@ use Rattle.qspi.specs.Choice.{pick}
 use Rattle.frames.specs.Frame.{actionOf, exchangeOf, advancedOf, takenIn, gave, deliveredBy}
 use Rattle.qspi.specs.declared.bus.Reply.{Reply}
 use Rattle.frames.specs.declared.frame.Advanced.{Advanced}
+use Rattle.spi_flash.specs.Replying as Replying
+use Rattle.spi_flash.specs.Settling as Settling
 use Rattle.spi_flash.specs.Loan.{Lent, readyFor}
 use Rattle.spi_flash.specs.Run.{Event, reply, call, Given, act, ended, failed, refused, Moved, System, entry, atOnce, goesOn, begunWith, runOf, callOf, stateAfter}
 use Rattle.spi_flash.specs.Machine.{Config, out, rest, lentAs, settle, moved, answered, machine}
@@ -91,14 +93,14 @@ module _ {S P A C : Type 0} (parts : Parts S P A C) (inBounds : S → Bool) wher
 
   -- the end of a transfer
   settles : (flash : Flash S P) (takes : Takes) (then : Then S P A) (l : Lent) → Alike configOf (settled flash takes then l) (settle takes (decide then) l)
-  unfolding settled
+  unfolding Settling.settled
   settles flash takes (General.go setup t phase) l = record { given = refl; flash = refl; left = refl }
   settles flash takes (General.end setup answer) l = record { given = refl; flash = refl; left = refl }
   settles flash takes (General.fail error) l = record { given = refl; flash = refl; left = refl }
 
   module _ (flash : Flash S P) (job : Job P) (is : flash .running ≡ busy job) (r : Reply) (bytes : List ℕ) (l : Lent) where
     steps : Alike configOf (proceeds parts flash job r bytes l) (answered (decideNext parts) (out (job .takes) (place (flash .setup) (job .phase)) (job .frame)) r bytes l)
-    unfolding proceeds exchangeOf
+    unfolding Replying.proceeds exchangeOf
     steps =
         by-cases (readyFor (job .takes) l)
         (λ ready. by-cases (fitsOf (actionOf (job .frame)) r (length bytes))

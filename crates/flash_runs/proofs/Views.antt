@@ -11,6 +11,8 @@ use borrow.Author.Tests.{le-ltb}
 use Rattle.frames.specs.Frame.{firstOf}
 use Rattle.qspi.specs.Command.{scratchLeast}
 use Rattle.qspi.specs.declared.transfer.Transfer.{Transfer}
+use Rattle.spi_flash.specs.Beginning as Beginning
+use Rattle.spi_flash.specs.Settling as Settling
 use Rattle.spi_flash.specs.Loan.{Lent}
 use Rattle.spi_flash.specs.Prog.{Prog, ret, fail, ask}
 use Rattle.spi_flash.specs.Run as Run
@@ -119,11 +121,11 @@ module _ {F C S A : Type 0} {driver : Driver F C S A} (known : Known driver) whe
         (is : driven .begin flash c l ≡ begun parts (driver .inBounds) flash takes then l)
         (there : built ≡ true) (lent : ltb (length (l .scratch)) scratchLeast ≡ false) (inside : driver .inBounds setup ≡ true) where
       opens : driven .begin flash c l ≡ opened flash takes then l
-      unfolding begun
+      unfolding Beginning.begun
       opens = is ∙ rw (there, lent, inside) refl
 
       opened-as : (x : Then S P A) → then ≡ x → Result
-      unfolding opened settled
+      unfolding Beginning.opened Settling.settled
       opened-as (General.go s t phase) e =
           inr (record {
             first = t;
@@ -150,7 +152,7 @@ module _ {F C S A : Type 0} {driver : Driver F C S A} (known : Known driver) whe
 
     makes : (fresh : S) → Construction driver parts Valid Built meaning setup c buffer given fresh → driven .begin flash c l ≡ constructed parts (driver .inBounds) flash fresh l →
         ltb (length (l .scratch)) scratchLeast ≡ false → driver .inBounds fresh ≡ true → Opens flash c l
-    unfolding constructed
+    unfolding Beginning.constructed
     makes fresh k is lent inside = record {
       first = Transfer.Raise;
       at = place fresh (parts .raised);
@@ -164,11 +166,11 @@ module _ {F C S A : Type 0} {driver : Driver F C S A} (known : Known driver) whe
     }
 
     tells-it : (answer : A) → Accessor driver parts Valid Built meaning setup c buffer given answer → driven .begin flash c l ≡ told flash answer l → built ≡ true → Answered flash c l
-    unfolding told
+    unfolding Beginning.told
     tells-it answer a is there = gives answer built delivered (a .follows) (is ∙ rw there refl) (rw (a .sorted) there)
 
-    frees-it : Release driver parts Valid Built meaning setup c buffer given → driven .begin flash c l ≡ freed parts flash l → built ≡ true → Answered flash c l
-    unfolding freed
+    frees-it : Release driver parts Valid Built meaning setup c buffer given → driven .begin flash c l ≡ freed parts (driver .inBounds) flash l → built ≡ true → Answered flash c l
+    unfolding Beginning.freed
     frees-it r is there = gives (parts .done) false delivered (r .follows) (is ∙ rw there refl) (rw (r .sorted) refl)
 
     -- ready or not, what gives no action has no run
@@ -200,7 +202,7 @@ module _ {F C S A : Type 0} {driver : Driver F C S A} (known : Known driver) whe
     refused-view e is = inl (quiet (Run.refused e) is (λ h. h))
 
     opening-view : (x : Opening S P A) → driven .begin flash c l ≡ openedAs parts (driver .inBounds) flash x l → Knows x → View
-    unfolding begun constructed told freed
+    unfolding Beginning.atRest Beginning.begun Beginning.constructed Beginning.told Beginning.freed
     opening-view (working takes then) is u =
         by-cases built
         (λ there. by-cases (ltb (length (l .scratch)) scratchLeast)
@@ -233,6 +235,7 @@ module _ {F C S A : Type 0} {driver : Driver F C S A} (known : Known driver) whe
 
     opening-usable : (x : Opening S P A) → driven .begin flash c l ≡ openedAs parts (driver .inBounds) flash x l → Knows x →
         ReadyAs (sortAt driver c l) → driver .inBounds (worksOn (sortAt driver c l) setup) ≡ true → Result
+    unfolding Beginning.atRest
     opening-usable (working takes then) is u ready bounds =
         let h : (built ≡ true) × (scratchLeast ≤ length (l .scratch)) = subst ReadyAs (u .sorted) ready in
         used takes then u is (h .0) (le-ltb (length (l .scratch)) scratchLeast (h .1)) (subst (λ x. driver .inBounds (worksOn x setup) ≡ true) (u .sorted) bounds)
@@ -290,7 +293,7 @@ module _ {F C S A : Type 0} {driver : Driver F C S A} (known : Known driver) whe
 
   pub opens-steps : {flash : Flash S P} {c : C} {l : Lent} (o : Opens flash c l) (es : List (Event C)) → runOf driven flash c l es ≡
       entry (call c l) (settle (takesAt driver c l) (more (o .first) (o .at)) l) ∷ goesOn driven (runningAt (o .at) (o .built) (takesAt driver c l) (o .first)) es
-  unfolding runOf settled
+  unfolding runOf Settling.settled
   opens-steps {flash} {c} {l} o es = ap (λ m. begunWith driven (m .given) c l m es) (o .is)
 
   abbrev onMachine : {flash : Flash S P} {c : C} {l : Lent} → Opens flash c l → List (Event C) → List (Run.Entry C (Left S A))
@@ -306,7 +309,7 @@ module _ {F C S A : Type 0} {driver : Driver F C S A} (known : Known driver) whe
       (machine-runs parts (driver .inBounds) (runningAt (o .at) (o .built) (takesAt driver c l) (o .first)) es)
 
   pub opens-call : (flash : F) {c : C} {l : Lent} (o : Opens (shape flash) c l) (es : List (Event C)) → stepsAt driver flash c l es ≡ onMachine o es
-  unfolding callOf settled
+  unfolding callOf Settling.settled
   opens-call flash {c} {l} o es =
       same-call driver parts (known .is) flash c l es
       ∙ ap (λ m. opening c l m ∷ goesOn driven (m .flash) es) (o .is)

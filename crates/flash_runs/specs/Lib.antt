@@ -1,4 +1,5 @@
 pub mod Driver
+pub mod System
 pub mod Reading
 pub mod SameAsRust
 pub mod Refusals

@@ -1,11 +1,9 @@
--- How each call begins, and how it is turned away (document 01, "Who can cause a refusal": 13, 14, 12, then the Rust's).
+-- How the SPI NAND driver's calls begin (specs/Beginning.antt of spi_flash), and what stands in it before the id is known.
 use Prim.Native.Nat.{ℕ}
-use mathlib.Core.Bool.{Bool, true, false}
-use lib.Dec.{ltb}
-use Rattle.qspi.specs.Choice.{pick}
-use Rattle.qspi.specs.Command.{scratchLeast}
-use Rattle.qspi.specs.declared.transfer.Transfer.{Transfer}
-use Rattle.spi_flash.specs.declared.error.FlashError.{FlashError}
+use mathlib.Core.Bool.{false}
+use Rattle.spi_flash.specs.Beginning.{Calls, raising, constructed, told, freed, opened, begun, atRest, begins}
+use Rattle.spi_flash.specs.Shape as Shape
+use Rattle.spi_flash.specs.Shape.{constructing, telling, releasing, working}
 use Rattle.spi_flash.specs.declared.loan.Takes.{Takes}
 use Rattle.spi_nand.specs.Config.{W25N01GV, inBounds, singleConfig, UNKNOWN}
 use Rattle.spi_nand.specs.declared.config.GeometrySetting.{GeometrySetting}
@@ -15,12 +13,10 @@ use Rattle.nand_answers.specs.declared.answer.Answer.{Answer}
 use Rattle.nand_phases.specs.declared.call.Call.{Call}
 use Rattle.nand_phases.specs.declared.phase.Phase.{Phase}
 use Rattle.nand_phases.specs.declared.setup.Setup.{Setup}
-use Rattle.nand_steps.specs.Go.{goTo}
 use Rattle.nand_steps.specs.declared.then.Then.{Then}
 use Rattle.nand_opening.specs.Opening.{openingOf}
 use Rattle.nand_opening.specs.declared.opening.Opening.{Opening}
-use Rattle.nand_driver.specs.Settle.{flashOf, refusedOf, settledOf}
-use Rattle.nand_driver.specs.declared.state.Given.{Given}
+use Rattle.nand_driver.specs.Settle.{thenAs, flashOf, nandShape}
 use Rattle.nand_driver.specs.declared.state.Running.{Running}
 use Rattle.nand_driver.specs.declared.state.SpiNandFlash.{SpiNandFlash}
 use Rattle.nand_driver.specs.declared.state.Stepped.{Stepped}
@@ -40,57 +36,47 @@ freshSetup config = record { config = config; geometry = givenGeometry config; i
 abbrev pub notBuilt : SpiNandFlash
 notBuilt = flashOf (freshSetup singleConfig) false 0 Running.Idle
 
--- `cs.set_high()`, with which a construction begins
+-- ---- what its calls are
+
+abbrev pub openingAs : Opening → Shape.Opening Setup Phase Answer
+openingAs (Opening.Constructs config) = constructing (freshSetup config)
+openingAs (Opening.Tells answer) = telling answer
+openingAs Opening.Releases = releasing
+openingAs (Opening.Uses takes then) = working takes (thenAs then)
+
+abbrev pub nandCalls : Calls Setup Phase Answer Call
+nandCalls =
+    record {
+      opening = λ setup call b d. openingAs (openingOf setup call b d);
+      raised = Phase.Raised;
+      done = Answer.Done;
+      inBounds = λ setup. inBounds (setup .geometry);
+    }
+
+-- ---- how they begin
+
 abbrev pub raisedOf : SpiNandConfig → Stepped
-raisedOf config =
-    settledOf (flashOf (freshSetup config) false 0 Running.Idle) Takes.Nothing (goTo (freshSetup config) Transfer.Raise Phase.Raised)
+raisedOf config = raising nandShape nandCalls (freshSetup config)
 
--- a construction may begin whenever no call is running; from its first action on the driver is not built
-unfoldable pub constructedOf : SpiNandFlash → SpiNandConfig → ℕ → Stepped
-constructedOf flash config scratch =
-    pick (ltb scratch scratchLeast) (refusedOf flash FlashError.Misfit)
-    (pick (inBounds (givenGeometry config)) (raisedOf config) (refusedOf flash FlashError.InvalidGeometry))
+abbrev pub constructedOf : SpiNandFlash → SpiNandConfig → ℕ → Stepped
+constructedOf flash config scratch = constructed nandShape nandCalls flash (freshSetup config) scratch
 
--- info, config, geometry: they take no scratch and change nothing
-unfoldable pub toldOf : SpiNandFlash → Answer → Stepped
-toldOf flash answer = pick (flash .built) (record { flash = flash; given = Given.Ended answer }) (refusedOf flash FlashError.OutOfTurn)
+-- info, config, geometry
+abbrev pub toldOf : SpiNandFlash → Answer → Stepped
+toldOf = told nandShape
 
--- free leaves the driver not built: the Rust moves the value away
-unfoldable pub freedOf : SpiNandFlash → Stepped
-freedOf flash =
-    pick (flash .built)
-    (record { flash = flashOf (flash .setup) false (flash .delivered) Running.Idle; given = Given.Ended Answer.Done })
-    (refusedOf flash FlashError.OutOfTurn)
+abbrev pub freedOf : SpiNandFlash → Stepped
+freedOf = freed nandShape nandCalls
 
--- a call that begins has delivered nothing yet
-abbrev pub freshCall : SpiNandFlash → SpiNandFlash
-freshCall flash = flashOf (flash .setup) (flash .built) 0 Running.Idle
+abbrev pub openedOf : SpiNandFlash → Takes → Then → Stepped
+openedOf flash takes then = opened nandShape flash takes (thenAs then)
 
--- "A call turned away before its first action, by caller or host, has not begun"
-unfoldable pub openedOf : SpiNandFlash → Takes → Then → Stepped
-openedOf flash takes (Then.Go setup transfer phase) = settledOf (freshCall flash) takes (Then.Go setup transfer phase)
-openedOf flash takes (Then.End setup answer) = settledOf (freshCall flash) takes (Then.End setup answer)
-openedOf flash takes (Then.Fail error) = refusedOf flash error
+abbrev pub begunOf : SpiNandFlash → ℕ → Takes → Then → Stepped
+begunOf flash scratch takes then = begun nandShape nandCalls flash scratch takes (thenAs then)
 
-unfoldable pub begunOf : SpiNandFlash → ℕ → Takes → Then → Stepped
-begunOf flash scratch takes then =
-    pick (flash .built)
-    (pick (ltb scratch scratchLeast) (refusedOf flash FlashError.Misfit)
-    (pick (inBounds (flash .setup .geometry)) (openedOf flash takes then) (refusedOf flash FlashError.InvalidGeometry)))
-    (refusedOf flash FlashError.OutOfTurn)
+abbrev pub idleOf : SpiNandFlash → Opening → ℕ → Stepped
+idleOf flash opening scratch = atRest nandShape nandCalls flash (openingAs opening) scratch
 
--- ---- every call, with the lengths of what is lent: scratch, buffer, data
-
-unfoldable pub idleOf : SpiNandFlash → Opening → ℕ → Stepped
-idleOf flash (Opening.Constructs config) s = constructedOf flash config s
-idleOf flash (Opening.Tells answer) s = toldOf flash answer
-idleOf flash Opening.Releases s = freedOf flash
-idleOf flash (Opening.Uses takes then) s = begunOf flash s takes then
-
-abbrev pub beginAt : Running → SpiNandFlash → Call → ℕ → ℕ → ℕ → Stepped
-beginAt Running.Idle flash call s b d = idleOf flash (openingOf (flash .setup) call b d) s
-beginAt (Running.Busy job) flash call s b d = refusedOf flash FlashError.OutOfTurn
-
--- a call begun during another is 13
-unfoldable pub beginOf : SpiNandFlash → Call → ℕ → ℕ → ℕ → Stepped
-beginOf flash call s b d = beginAt (flash .running) flash call s b d
+-- every call, with the lengths of scratch, buffer and data
+abbrev pub beginOf : SpiNandFlash → Call → ℕ → ℕ → ℕ → Stepped
+beginOf = begins nandShape nandCalls

@@ -48,7 +48,8 @@ use Rattle.nand_steps.specs.declared.then.Then.{Then}
 use Rattle.nand_next.specs.Wait.{resetThen, resumeTask, waitThen, waitingThen}
 use Rattle.nand_next.specs.Next.{enabledThen, latchedThen, enablingThen, identifyThen, answeredThen, afterPhase, nextOf}
 use Rattle.flash_runs.proofs.Supplies.{Stays}
-use Rattle.nand_runs.proofs.Places.{thenAs, decide, Valid}
+use Rattle.nand_driver.specs.Settle.{thenAs}
+use Rattle.nand_runs.proofs.Places.{decide, Valid}
 
 -- ---- the phases of a construction are told by what they are within
 

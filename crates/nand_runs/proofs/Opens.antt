@@ -37,7 +37,9 @@ use Rattle.nand_steps.specs.declared.then.Then.{Then}
 use Rattle.nand_opening.specs.Opening.{openingOf}
 use Rattle.nand_rust.specs.Program.{programOf, rustProgram}
 use Rattle.nand_runs.specs.Run.{sortOf, nandDriver}
-use Rattle.nand_runs.proofs.Places.{thenAs, openingAs, parts, decide, Valid}
+use Rattle.nand_driver.specs.Call.{openingAs}
+use Rattle.nand_driver.specs.Settle.{thenAs}
+use Rattle.nand_runs.proofs.Places.{parts, decide, Valid}
 use Rattle.nand_runs.proofs.Meaning.{meaning}
 use Rattle.nand_runs.proofs.Keeps.{Built, stays, keeps-page-read, keeps-read-cache, keeps-load-data, keeps-program, keeps-read-page, keeps-write-page, keeps-erase, keeps-read-call, keeps-is-bad}
 use Rattle.nand_runs.proofs.Construction.{constructs}

@@ -1,62 +1,26 @@
 -- The NAND driver as it is stepped, and what the statements need to know of it.
 use Prim.Native.Nat.{ℕ}
-use mathlib.Core.Bool.{Bool, true, false}
-use mathlib.Core.List.{List}
-use lib.ListN.{length}
-use Rattle.qspi.specs.Shown.{shownOf}
-use Rattle.spi_flash.specs.Loan.{Lent}
-use Rattle.spi_flash.specs.Machine.{lentAs}
-use Rattle.spi_flash.specs.Run as Run
 use Rattle.spi_flash.specs.Run.{System}
 use Rattle.spi_flash.specs.declared.loan.Takes.{Takes}
-use Rattle.flash_runs.specs.Driver.{leaving, Sort, constructs, tells, releases, uses, Driver}
-use Rattle.spi_nand.specs.Config.{inBounds, singleConfig}
+use Rattle.flash_runs.specs.Driver.{Sort, constructs, tells, releases, uses, Driver}
+use Rattle.flash_runs.specs.System.{systemOf}
+use Rattle.spi_nand.specs.Config.{singleConfig}
 use Rattle.nand_answers.specs.Answer.{answerValues}
 use Rattle.nand_answers.specs.declared.answer.Answer.{Answer}
 use Rattle.nand_phases.specs.declared.call.Call.{Call}
 use Rattle.nand_phases.specs.declared.setup.Setup.{Setup}
-use Rattle.nand_driver.specs.Call.{freshSetup, beginOf}
-use Rattle.nand_reply.specs.Step.{Moved, stepOf, deliveredPart}
-use Rattle.nand_driver.specs.declared.state.Given.{Given}
-use Rattle.nand_driver.specs.declared.state.Running.{Running}
+use Rattle.nand_driver.specs.Call.{freshSetup, nandCalls, beginOf}
+use Rattle.nand_driver.specs.Settle.{nandShape}
+use Rattle.nand_reply.specs.Step.{stepOf, deliveredPart}
 use Rattle.nand_driver.specs.declared.state.SpiNandFlash.{SpiNandFlash}
-use Rattle.nand_driver.specs.declared.state.Stepped.{Stepped}
 use Rattle.nand_rust.specs.Bound.{delayBound, actionBound}
 use Rattle.nand_rust.specs.Observer.{readsCache}
 use Rattle.nand_rust.specs.Program.{Left, programOf}
 use Rattle.nand_rust.specs.ProgramBounds.{canEnd}
 
--- what a step gives, with the bytes that an action shows and the driver that an end leaves behind
-abbrev pub givenAs : Given → SpiNandFlash → List ℕ → List ℕ → Run.Given Left
-givenAs (Given.Act action) flash scratch lent = Run.act (shownOf action scratch lent)
-givenAs (Given.Ended answer) flash scratch lent = Run.ended (leaving (flash .setup) answer)
-givenAs (Given.Failed error) flash scratch lent = Run.failed error
-givenAs (Given.Refused error) flash scratch lent = Run.refused error
-
--- a beginning changes nothing that is lent
-abbrev pub begunAs : Stepped → Lent → Run.Moved SpiNandFlash Left
-begunAs x l = record { given = givenAs (x .given) (x .flash) (l .scratch) (l .given); flash = x .flash; left = l }
-
-abbrev pub steppedAs : Moved → Lent → Run.Moved SpiNandFlash Left
-steppedAs m l =
-    record {
-      given = givenAs (m .stepped .given) (m .stepped .flash) (m .scratch) (l .given);
-      flash = m .stepped .flash;
-      left = lentAs (m .scratch) (m .buffer) l;
-    }
-
-abbrev pub isRunning : Running → Bool
-isRunning Running.Idle = false
-isRunning (Running.Busy job) = true
-
 -- the driver as it is stepped: `begin` and `step`
 abbrev pub nand : System SpiNandFlash Call Left
-nand =
-    record {
-      begin = λ flash call l. begunAs (beginOf flash call (length (l .scratch)) (length (l .buffer)) (length (l .given))) l;
-      answer = λ flash r bytes l. steppedAs (stepOf flash r bytes (l .scratch) (l .buffer) (l .given)) l;
-      running = λ flash. isRunning (flash .running);
-    }
+nand = systemOf nandShape beginOf stepOf
 
 -- what each call is, with a buffer of b bytes and data of d bytes
 unfoldable pub sortOf : Call → ℕ → ℕ → Sort Setup
@@ -98,7 +62,7 @@ nandDriver =
       blank = freshSetup singleConfig;
       delivered = deliveredPart;
       sort = sortOf;
-      inBounds = λ setup. inBounds (setup .geometry);
+      inBounds = nandCalls .inBounds;
       program = programOf;
       delayBound = λ setup call b d. delayBound setup call b;
       actionBound = λ setup call b d. actionBound setup call b;

@@ -1,11 +1,9 @@
--- How each call begins, and how it is turned away (document 01, "Who can cause a refusal": 13, 14, 12, then the Rust's).
+-- How the SPI NOR driver's calls begin (specs/Beginning.antt of spi_flash), and what stands in it before the id is known.
 use Prim.Native.Nat.{ℕ}
 use mathlib.Core.Bool.{false}
-use lib.Dec.{ltb}
-use Rattle.qspi.specs.Choice.{pick}
-use Rattle.qspi.specs.Command.{scratchLeast}
-use Rattle.qspi.specs.declared.transfer.Transfer.{Transfer}
-use Rattle.spi_flash.specs.declared.error.FlashError.{FlashError}
+use Rattle.spi_flash.specs.Beginning.{Calls, raising, constructed, told, freed, opened, begun, atRest, begins}
+use Rattle.spi_flash.specs.Shape as Shape
+use Rattle.spi_flash.specs.Shape.{constructing, telling, releasing, working}
 use Rattle.spi_flash.specs.declared.loan.Takes.{Takes}
 use Rattle.spi_nor.specs.Config.{w25q128jv, inBoundsOf, singleConfig, jedecId}
 use Rattle.spi_nor.specs.declared.config.DeviceSetting.{DeviceSetting}
@@ -15,12 +13,10 @@ use Rattle.nor_answers.specs.declared.answer.Answer.{Answer}
 use Rattle.nor_phases.specs.declared.call.Call.{Call}
 use Rattle.nor_phases.specs.declared.phase.Phase.{Phase}
 use Rattle.nor_phases.specs.declared.setup.Setup.{Setup}
-use Rattle.nor_steps.specs.Go.{goTo}
 use Rattle.nor_steps.specs.declared.then.Then.{Then}
 use Rattle.nor_opening.specs.Opening.{openingOf}
 use Rattle.nor_opening.specs.declared.opening.Opening.{Opening}
-use Rattle.nor_driver.specs.Settle.{flashOf, refusedOf, settledOf}
-use Rattle.nor_driver.specs.declared.state.Given.{Given}
+use Rattle.nor_driver.specs.Settle.{thenAs, flashOf, norShape}
 use Rattle.nor_driver.specs.declared.state.Running.{Running}
 use Rattle.nor_driver.specs.declared.state.SpiNorFlash.{SpiNorFlash}
 use Rattle.nor_driver.specs.declared.state.Stepped.{Stepped}
@@ -42,59 +38,47 @@ freshSetup config = record { config = config; device = givenDevice config; id = 
 abbrev pub notBuilt : SpiNorFlash
 notBuilt = flashOf (freshSetup singleConfig) false 0 Running.Idle
 
--- `cs.set_high()`, with which a construction begins
+-- ---- what its calls are
+
+abbrev pub openingAs : Opening → Shape.Opening Setup Phase Answer
+openingAs (Opening.Constructs config) = constructing (freshSetup config)
+openingAs (Opening.Tells answer) = telling answer
+openingAs Opening.Releases = releasing
+openingAs (Opening.Uses takes then) = working takes (thenAs then)
+
+abbrev pub norCalls : Calls Setup Phase Answer Call
+norCalls =
+    record {
+      opening = λ setup call b d. openingAs (openingOf setup call b d);
+      raised = Phase.Raised;
+      done = Answer.Done;
+      inBounds = λ setup. inBoundsOf (setup .device);
+    }
+
+-- ---- how they begin
+
 abbrev pub raisedOf : SpiNorConfig → Stepped
-raisedOf config =
-    settledOf (flashOf (freshSetup config) false 0 Running.Idle) Takes.Nothing (goTo (freshSetup config) Transfer.Raise Phase.Raised)
+raisedOf config = raising norShape norCalls (freshSetup config)
 
--- a construction may begin whenever no call is running; from its first action on the driver is not built
-unfoldable pub constructedOf : SpiNorFlash → SpiNorConfig → ℕ → Stepped
-constructedOf flash config scratch =
-    pick (ltb scratch scratchLeast) (refusedOf flash FlashError.Misfit)
-    (pick (inBoundsOf (givenDevice config)) (raisedOf config) (refusedOf flash FlashError.InvalidGeometry))
+abbrev pub constructedOf : SpiNorFlash → SpiNorConfig → ℕ → Stepped
+constructedOf flash config scratch = constructed norShape norCalls flash (freshSetup config) scratch
 
--- config, device, id: they take no scratch and change nothing
-unfoldable pub toldOf : SpiNorFlash → Answer → Stepped
-toldOf flash answer = pick (flash .built) (record { flash = flash; given = Given.Ended answer }) (refusedOf flash FlashError.OutOfTurn)
+-- config, device, id
+abbrev pub toldOf : SpiNorFlash → Answer → Stepped
+toldOf = told norShape
 
--- free leaves the driver not built: the Rust moves the value away
-unfoldable pub freedOf : SpiNorFlash → Stepped
-freedOf flash =
-    pick (flash .built)
-    (record { flash = flashOf (flash .setup) false (flash .delivered) Running.Idle; given = Given.Ended Answer.Done })
-    (refusedOf flash FlashError.OutOfTurn)
+abbrev pub freedOf : SpiNorFlash → Stepped
+freedOf = freed norShape norCalls
 
--- a call that begins has delivered nothing yet
-abbrev pub freshCall : SpiNorFlash → SpiNorFlash
-freshCall flash = flashOf (flash .setup) (flash .built) 0 Running.Idle
+abbrev pub openedOf : SpiNorFlash → Takes → Then → Stepped
+openedOf flash takes then = opened norShape flash takes (thenAs then)
 
--- "A call turned away before its first action, by caller or host, has not begun"
-unfoldable pub openedOf : SpiNorFlash → Takes → Then → Stepped
-openedOf flash takes (Then.Go setup transfer phase) = settledOf (freshCall flash) takes (Then.Go setup transfer phase)
-openedOf flash takes (Then.End setup answer) = settledOf (freshCall flash) takes (Then.End setup answer)
-openedOf flash takes (Then.Fail error) = refusedOf flash error
+abbrev pub begunOf : SpiNorFlash → ℕ → Takes → Then → Stepped
+begunOf flash scratch takes then = begun norShape norCalls flash scratch takes (thenAs then)
 
--- a call other than a construction: 13 where the driver is not built, 14 for a scratch under 264, 12 for a device outside the bounds
-unfoldable pub begunOf : SpiNorFlash → ℕ → Takes → Then → Stepped
-begunOf flash scratch takes then =
-    pick (flash .built)
-    (pick (ltb scratch scratchLeast) (refusedOf flash FlashError.Misfit)
-    (pick (inBoundsOf (flash .setup .device)) (openedOf flash takes then) (refusedOf flash FlashError.InvalidGeometry)))
-    (refusedOf flash FlashError.OutOfTurn)
+abbrev pub idleOf : SpiNorFlash → Opening → ℕ → Stepped
+idleOf flash opening scratch = atRest norShape norCalls flash (openingAs opening) scratch
 
--- ---- every call, with the lengths of what is lent: scratch, buffer, data
-
--- each call by what it is to a driver at rest
-unfoldable pub idleOf : SpiNorFlash → Opening → ℕ → Stepped
-idleOf flash (Opening.Constructs config) s = constructedOf flash config s
-idleOf flash (Opening.Tells answer) s = toldOf flash answer
-idleOf flash Opening.Releases s = freedOf flash
-idleOf flash (Opening.Uses takes then) s = begunOf flash s takes then
-
-abbrev pub beginAt : Running → SpiNorFlash → Call → ℕ → ℕ → ℕ → Stepped
-beginAt Running.Idle flash call s b d = idleOf flash (openingOf (flash .setup) call b d) s
-beginAt (Running.Busy job) flash call s b d = refusedOf flash FlashError.OutOfTurn
-
--- a call begun during another is 13
-unfoldable pub beginOf : SpiNorFlash → Call → ℕ → ℕ → ℕ → Stepped
-beginOf flash call s b d = beginAt (flash .running) flash call s b d
+-- every call, with the lengths of scratch, buffer and data
+abbrev pub beginOf : SpiNorFlash → Call → ℕ → ℕ → ℕ → Stepped
+beginOf = begins norShape norCalls

@@ -22,7 +22,8 @@ use Rattle.nor_phases.specs.Transfer.{placeOf, chunkOf, readAt, readTransfer, i
 use Rattle.nor_pages.specs.Read.{readThen, readFrom}
 use Rattle.nor_pages.specs.Write.{writeThen, programFrom}
 use Rattle.nor_pages.specs.Erase.{eraseUnit, eraseOne, eraseThen, eraseFrom}
-use Rattle.nor_driver.specs.Call.{freshSetup}
+use Rattle.nor_driver.specs.Call.{freshSetup, openingAs}
+use Rattle.nor_driver.specs.Settle.{thenAs}
 use Rattle.nor_opening.specs.Opening.{openingOf}
 use Rattle.nor_runs.specs.Rust.{read, write, erase-unit, erase, erasing}
 use Rattle.nor_runs.specs.Program.{Left, leaving, programOf}
@@ -34,7 +35,7 @@ use Rattle.nor_phases.specs.declared.call.Call.{Call}
 use Rattle.nor_phases.specs.declared.setup.Setup.{Setup}
 use Rattle.nor_steps.specs.declared.then.Then.{Then}
 use Rattle.nor_runs.proofs.Loops.{erasing-loop}
-use Rattle.nor_runs.proofs.Places.{place, thenAs, openingAs, decide, norParts, Valid, Built, Stays}
+use Rattle.nor_runs.proofs.Places.{place, decide, norParts, Valid, Built, Stays}
 use Rattle.nor_runs.proofs.Keeps.{stays, keeps-read, keeps-program, keeps-unit, keeps-erase, keeps-pick}
 use Rattle.nor_runs.proofs.Simulation.{meaning, then-assoc, starts, reads-on, writes-on, erases-unit, erases-on, beginnings}
 

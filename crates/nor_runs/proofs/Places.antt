@@ -4,13 +4,12 @@ use mathlib.Core.Path.{_≡_}
 use Rattle.frames.specs.declared.frame.Outcome.{Outcome}
 use Rattle.spi_flash.specs.Machine.{Decision}
 use Rattle.flash_runs.proofs.General as General
-use Rattle.flash_runs.proofs.General.{constructing, telling, releasing, working, Parts}
+use Rattle.flash_runs.proofs.General.{Parts, partsOf}
 use Rattle.flash_runs.proofs.Supplies as Supplies
 use Rattle.spi_nor.specs.Config.{inBoundsOf}
-use Rattle.nor_next.specs.Next.{nextOf}
-use Rattle.nor_driver.specs.Call.{freshSetup}
-use Rattle.nor_opening.specs.Opening.{openingOf}
-use Rattle.nor_opening.specs.declared.opening.Opening.{Opening}
+use Rattle.nor_driver.specs.Call.{norCalls}
+use Rattle.nor_driver.specs.Settle.{thenAs}
+use Rattle.nor_reply.specs.Step.{norNext}
 use Rattle.nor_runs.specs.Program.{Left}
 use Rattle.nor_answers.specs.declared.answer.Answer.{Answer}
 use Rattle.nor_phases.specs.declared.call.Call.{Call}
@@ -25,29 +24,11 @@ Place = General.Place Setup Phase
 abbrev pub place : Setup → Phase → Place
 place setup phase = General.place setup phase
 
-abbrev pub thenAs : Then → General.Then Setup Phase Answer
-thenAs (Then.Go setup t phase) = General.go setup t phase
-thenAs (Then.End setup answer) = General.end setup answer
-thenAs (Then.Fail error) = General.fail error
-
 abbrev pub decide : Then → Decision Place Left
 decide x = General.decide (thenAs x)
 
--- what a call is to a driver at rest
-abbrev pub openingAs : Opening → General.Opening Setup Phase Answer
-openingAs (Opening.Constructs config) = constructing (freshSetup config)
-openingAs (Opening.Tells answer) = telling answer
-openingAs Opening.Releases = releasing
-openingAs (Opening.Uses takes then) = working takes (thenAs then)
-
 abbrev pub norParts : Parts Setup Phase Answer Call
-norParts =
-    record {
-      next = λ s phase o. thenAs (nextOf s phase o);
-      opening = λ s call b d. openingAs (openingOf s call b d);
-      raised = Phase.Raised;
-      done = Answer.Done;
-    }
+norParts = partsOf norCalls norNext
 
 abbrev pub decideNext : Place → Outcome → Decision Place Left
 decideNext s o = General.decideNext norParts s o

@@ -1,62 +1,27 @@
 -- The NOR driver as the promises speak of it: the code's own steps, as a system that is driven event by event, what each call is, and
 -- the figures.
 use Prim.Native.Nat.{ℕ}
-use mathlib.Core.Bool.{Bool, true, false}
-use mathlib.Core.List.{List}
-use lib.ListN.{length}
-use Rattle.qspi.specs.Shown.{shownOf}
-use Rattle.spi_flash.specs.Loan.{Lent}
-use Rattle.spi_flash.specs.Machine.{lentAs}
-use Rattle.spi_flash.specs.Run as Run
+use mathlib.Core.Bool.{Bool, true}
 use Rattle.spi_flash.specs.Run.{System}
 use Rattle.spi_flash.specs.declared.loan.Takes.{Takes}
 use Rattle.flash_runs.specs.Driver.{Sort, constructs, tells, releases, uses, Driver}
+use Rattle.flash_runs.specs.System.{systemOf}
 use Rattle.flash_runs.specs.Promises.{Promises}
-use Rattle.spi_nor.specs.Config.{inBoundsOf, singleConfig}
+use Rattle.spi_nor.specs.Config.{singleConfig}
 use Rattle.nor_answers.specs.Answer.{answerValues}
 use Rattle.nor_answers.specs.declared.answer.Answer.{Answer}
 use Rattle.nor_phases.specs.declared.setup.Setup.{Setup}
-use Rattle.nor_reply.specs.Step.{Moved, stepOf, deliveredPart}
-use Rattle.nor_driver.specs.Call.{freshSetup, notBuilt, beginOf}
-use Rattle.nor_runs.specs.Program.{Left, leaving, programOf}
+use Rattle.nor_reply.specs.Step.{stepOf, deliveredPart}
+use Rattle.nor_driver.specs.Call.{freshSetup, notBuilt, norCalls, beginOf}
+use Rattle.nor_driver.specs.Settle.{norShape}
+use Rattle.nor_runs.specs.Program.{Left, programOf}
 use Rattle.nor_runs.specs.Bound.{pageTaken, delayBound, actionBound}
 use Rattle.nor_phases.specs.declared.call.Call.{Call}
-use Rattle.nor_driver.specs.declared.state.Given.{Given}
-use Rattle.nor_driver.specs.declared.state.Running.{Running}
 use Rattle.nor_driver.specs.declared.state.SpiNorFlash.{SpiNorFlash}
-use Rattle.nor_driver.specs.declared.state.Stepped.{Stepped}
-
--- what a step gives, with the bytes that an action shows and the driver that an end leaves behind
-abbrev pub givenAs : Given → SpiNorFlash → List ℕ → List ℕ → Run.Given Left
-givenAs (Given.Act action) flash scratch lent = Run.act (shownOf action scratch lent)
-givenAs (Given.Ended answer) flash scratch lent = Run.ended (leaving (flash .setup) answer)
-givenAs (Given.Failed error) flash scratch lent = Run.failed error
-givenAs (Given.Refused error) flash scratch lent = Run.refused error
-
--- a beginning changes nothing that is lent
-abbrev pub begunAs : Stepped → Lent → Run.Moved SpiNorFlash Left
-begunAs x l = record { given = givenAs (x .given) (x .flash) (l .scratch) (l .given); flash = x .flash; left = l }
-
-abbrev pub steppedAs : Moved → Lent → Run.Moved SpiNorFlash Left
-steppedAs m l =
-    record {
-      given = givenAs (m .stepped .given) (m .stepped .flash) (m .scratch) (l .given);
-      flash = m .stepped .flash;
-      left = lentAs (m .scratch) (m .buffer) l;
-    }
-
-abbrev pub isRunning : Running → Bool
-isRunning Running.Idle = false
-isRunning (Running.Busy job) = true
 
 -- the driver as it is stepped: `begin` and `step`
 abbrev pub nor : System SpiNorFlash Call Left
-nor =
-    record {
-      begin = λ flash call l. begunAs (beginOf flash call (length (l .scratch)) (length (l .buffer)) (length (l .given))) l;
-      answer = λ flash r bytes l. steppedAs (stepOf flash r bytes (l .scratch) (l .buffer) (l .given)) l;
-      running = λ flash. isRunning (flash .running);
-    }
+nor = systemOf norShape beginOf stepOf
 
 -- what each call is, with a buffer of b bytes and data of d
 abbrev pub sortOf : Call → ℕ → ℕ → Sort Setup
@@ -97,7 +62,7 @@ norDriver = record {
   blank = notBuilt .setup;
   delivered = deliveredPart;
   sort = sortOf;
-  inBounds = λ flash. inBoundsOf (flash .device);
+  inBounds = norCalls .inBounds;
   program = programOf;
   delayBound = λ flash call b d. delayBound flash call d;
   actionBound = actionBound;

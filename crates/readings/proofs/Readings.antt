@@ -1,5 +1,7 @@
 -- The readings, by computation.
 use mathlib.Core.Path.{refl}
+use Rattle.spi_flash.specs.Beginning.{opened, begun, atRest, begins}
+use Rattle.spi_flash.specs.Settling.{settled}
 use Rattle.spi_nor.specs.Config.{capacityBytesOf, fromJedec}
 use Rattle.nor_phases.specs.Transfer.{multipleOf, stepKind, afterUnit}
 use Rattle.nor_runs.specs.Bound.{delayBound}
@@ -9,10 +11,8 @@ use Rattle.spi_nand.specs.Status.{verdictOf, withBits, blockProtectBits, isUnlo
 use Rattle.nand_phases.specs.Transfer.{inRange, placeOf, chunkOf}
 use Rattle.nand_pages.specs.Read.{readFrom, readThen}
 use Rattle.nand_opening.specs.Opening.{openingOf}
-use Rattle.nand_driver.specs.Call.{openedOf, begunOf, idleOf, beginOf}
-use Rattle.nand_driver.specs.Settle.{settledOf}
 use Rattle.readings.specs.Readings.{ReadingsHold}
 
 pub readings-hold : ReadingsHold
-unfolding capacityBytesOf fromJedec multipleOf stepKind afterUnit delayBound timingsOf verdictOf withBits blockProtectBits isUnlocked capacityOf inBounds inRange placeOf chunkOf readFrom readThen openingOf openedOf begunOf idleOf beginOf settledOf
+unfolding capacityBytesOf fromJedec multipleOf stepKind afterUnit delayBound timingsOf verdictOf withBits blockProtectBits isUnlocked capacityOf inBounds inRange placeOf chunkOf readFrom readThen openingOf opened begun atRest begins settled
 readings-hold = record { all = refl }

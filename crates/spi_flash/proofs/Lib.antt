@@ -13,3 +13,4 @@ pub mod OnBus
 pub mod Performs
 pub mod Select
 pub mod Unread
+pub mod Faithful

@@ -2,6 +2,10 @@ pub mod Error
 pub mod Bits
 pub mod Loan
 pub mod Wait
+pub mod Shape
+pub mod Settling
+pub mod Beginning
+pub mod Replying
 pub mod Prog
 pub mod Path
 pub mod WaitLaw

@@ -1,4 +1,5 @@
--- The step machine that both drivers are: a state that decides on the next transfer, and one frame of it on the bus.
+-- The machine that the theory of runs is about, to which every driver comes down: a state that decides on the next transfer, and one
+-- frame of it on the bus.
 use Prim.Native.Nat.{ℕ}
 use mathlib.Core.Bool.{Bool, true, false}
 use mathlib.Core.Path.{_≡_}

@@ -16,11 +16,13 @@ use Rattle.spi_flash.specs.Error.{errorNumber}
 use Rattle.spi_flash.specs.Loan.{Lent, readyFor}
 use Rattle.spi_flash.specs.Machine.{heard}
 use Rattle.spi_flash.specs.Run as Run
+use Rattle.spi_flash.specs.Shape.{Given, acts, ends, fails, refuses}
 use Rattle.spi_flash.specs.declared.error.FlashError.{FlashError}
 use Rattle.spi_flash.specs.declared.loan.Takes.{Takes}
+use Rattle.flash_runs.specs.System.{shownAs}
 use Rattle.tape.specs.Record.{dataOf, spentOf, replyOf}
 use Rattle.tape.specs.declared.record.Record.{Record}
-use Rattle.tape_runs.specs.Player.{Last, acts, ends, fails, refuses, shownAs, Played, Awaited, nothing, frame, Player}
+use Rattle.tape_runs.specs.Player.{Played, Awaited, nothing, frame, Player}
 use Rattle.tape_runs.specs.Exactly.{Just, nextRecord, Exactly}
 use Rattle.tape_runs.proofs.Laws.{Unrefused, Heard, Hears, Steps, Acts, Moves, Follows}
 
@@ -66,7 +68,7 @@ module _ {A : Type 0} (given : Run.Given A) where
 -- ---- 16
 
 -- a refusal is told by what it shows
-refuses-shown : {A : Type 0} (last : Last A) (scratch lent : List ℕ) (e : FlashError) → shownAs last scratch lent ≡ Run.refused e → last ≡ refuses e
+refuses-shown : {A : Type 0} (last : Given A) (scratch lent : List ℕ) (e : FlashError) → shownAs last scratch lent ≡ Run.refused e → last ≡ refuses e
 refuses-shown (acts action) s g e is = cc
 refuses-shown (ends a) s g e is = cc
 refuses-shown (fails x) s g e is = cc
@@ -98,7 +100,7 @@ module _ {R F C A : Type 0} (player : Player R F C A) (follows : Follows player)
   acts-spent true true p r tape l s = (λ e. (refl, refl), λ both. s .last)
 
   -- the step of a replay with an action out
-  acting : (r : R) (tape : List ℕ) (l : Lent) (last : Last A) → player .last r ≡ last → Moves player last (player .advance r tape l) r tape l
+  acting : (r : R) (tape : List ℕ) (l : Lent) (last : Given A) → player .last r ≡ last → Moves player last (player .advance r tape l) r tape l
   acting r tape l last e = subst (λ x. Moves player x (player .advance r tape l) r tape l) e (follows .moves r tape l)
 
   pub exactly : Exactly player

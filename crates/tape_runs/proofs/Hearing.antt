@@ -6,21 +6,19 @@ use Rattle.qspi.specs.declared.bus.Reply.{Reply}
 use Rattle.qspi.proofs.Cases.{by-cases}
 use Rattle.frames.specs.Frame.{exchangeOf}
 use Rattle.frames.specs.declared.frame.Exchanged.{Exchanged}
+use Rattle.spi_flash.specs.Replying as Replying
+use Rattle.spi_flash.specs.Settling as Settling
 use Rattle.spi_flash.specs.Loan.{Lent, readyFor}
 use Rattle.spi_flash.specs.Machine.{lentAs}
 use Rattle.spi_flash.specs.declared.loan.Takes.{Takes}
 use Rattle.flash_runs.proofs.General as General
 use Rattle.flash_runs.proofs.General.{Then, Parts, Job, Running, idle, busy, Flash, settled, exchanged, proceeds, answerAt}
-use Rattle.tape_runs.specs.Player.{Awaited, nothing, frame}
+use Rattle.tape_runs.specs.Player.{awaitedIn}
 use Rattle.tape_runs.proofs.Laws.{Unrefused, Heard, Hears}
-
-abbrev pub awaitedIn : {P : Type 0} → Running P → Awaited
-awaitedIn idle = nothing
-awaitedIn (busy job) = frame (job .takes) (job .frame)
 
 module _ {S P A C : Type 0} (parts : Parts S P A C) where
   settled-taken : (flash : Flash S P) (takes : Takes) (then : Then S P A) (l : Lent) → Unrefused (settled flash takes then l .given)
-  unfolding settled
+  unfolding Settling.settled
   settled-taken flash takes (General.go setup t phase) l = tt
   settled-taken flash takes (General.end setup answer) l = tt
   settled-taken flash takes (General.fail error) l = tt
@@ -32,7 +30,7 @@ module _ {S P A C : Type 0} (parts : Parts S P A C) where
 
   pub general-hears : (running : Running P) (flash : Flash S P) (kind : Reply) (bytes : List ℕ) (l : Lent) →
       Hears (awaitedIn running) kind bytes l (answerAt parts running flash kind bytes l .given)
-  unfolding proceeds
+  unfolding Replying.proceeds
   general-hears idle flash kind bytes l = refl
   general-hears (busy job) flash kind bytes l =
       let x = exchangeOf (job .frame) kind bytes (l .scratch) (l .buffer) (l .given) in

@@ -10,10 +10,12 @@ use Rattle.spi_flash.specs.Loan.{Lent}
 use Rattle.spi_flash.specs.Machine.{heard}
 use Rattle.spi_flash.specs.Run as Run
 use Rattle.spi_flash.specs.Run.{fittingThen}
+use Rattle.spi_flash.specs.Shape.{Given, acts, ends, fails, refuses}
 use Rattle.spi_flash.specs.declared.error.FlashError.{FlashError}
+use Rattle.flash_runs.specs.System.{shownAs}
 use Rattle.tape.specs.Judge.{acceptedOf, firstOf}
 use Rattle.tape.specs.Record.{takenAt, dataOf, spentOf, replyOf}
-use Rattle.tape_runs.specs.Player.{Last, acts, ends, fails, refuses, shownAs, Played, Awaited, nothing, frame, Player}
+use Rattle.tape_runs.specs.Player.{Played, Awaited, nothing, frame, Player}
 use Rattle.tape_runs.specs.Exactly.{nextRecord}
 
 abbrev pub Unrefused : {A : Type 0} → Run.Given A → Type 0
@@ -54,7 +56,7 @@ module _ {R F C A : Type 0} (player : Player R F C A) where
   Acts true true p r tape l = Stops p l
 
   -- an end is not gone on from
-  abbrev pub Moves : Last A → Played R → R → List ℕ → Lent → Type 0
+  abbrev pub Moves : Given A → Played R → R → List ℕ → Lent → Type 0
   Moves (acts action) p r tape l = Acts (onBus action) (spentOf (nextRecord player r tape)) p r tape l
   Moves (ends a) p r tape l = Unit {0}
   Moves (fails e) p r tape l = Unit {0}

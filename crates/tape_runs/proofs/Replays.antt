@@ -11,13 +11,15 @@ use Rattle.spi_flash.specs.Loan.{Lent}
 use Rattle.spi_flash.specs.Run as Run
 use Rattle.spi_flash.specs.Run.{reply, goesOn}
 use Rattle.spi_flash.specs.Seen.{Did, did}
+use Rattle.spi_flash.specs.Shape.{Given, acts, ends, fails, refuses}
 use Rattle.spi_flash.specs.declared.error.FlashError.{FlashError}
+use Rattle.flash_runs.specs.System.{shownAs}
 use Rattle.tape.specs.Tape.{TapeRecord}
 use Rattle.tape.specs.Record.{takenAt, dataOf, spentOf, replyOf}
 use Rattle.tape.specs.Records.{listed, recordsFrom}
 use Rattle.tape.specs.declared.record.Record.{Record}
 use Rattle.tape.proofs.Statements.{reader-walks}
-use Rattle.tape_runs.specs.Player.{Last, acts, ends, fails, refuses, shownAs, Played, Player}
+use Rattle.tape_runs.specs.Player.{Played, Player}
 use Rattle.tape_runs.specs.Exactly.{nextRecord}
 use Rattle.tape_runs.specs.Replays.{playedThen, playing, usesRecord, AnsweredTo, AnsweredAs, Answered, listing, Replays, ReplayRuns}
 use Rattle.tape_runs.proofs.Laws.{Steps, Stops, Acts, Moves, Follows}
@@ -116,7 +118,7 @@ module _ {R F C A : Type 0} (player : Player R F C A) (tape : List ℕ) where
         (λ rest h. rw (shown-uses action s g, bus, reader-walks .steps tape (player .at r)) (record-answers C tape l (nextRecord player r tape) e _ rest h))
     performed action true true bus e stops = stopped ls ih l step (player .flash r) (player .at r) _ _ stops
 
-    moved : (last : Last A) → Moves player last step r tape l →
+    moved : (last : Given A) → Moves player last step r tape l →
         Replays (player .system) (recordsFrom tape (player .at r)) (player .flash r) (shownAs last s g) (playedThen player last step (λ next. playing player tape next ls))
     moved (acts action) m = performed action (onBus action) (spentOf (nextRecord player r tape)) refl refl m
     moved (ends a) m = nothing-played

@@ -9,11 +9,12 @@ use Rattle.qspi.specs.declared.bus.Action.{Action}
 use Rattle.frames.specs.Frame.{actionOf}
 use Rattle.frames.specs.declared.frame.Frame.{Frame}
 use Rattle.spi_flash.specs.Loan.{Lent, readyFor}
+use Rattle.spi_flash.specs.Shape.{Given, acts, refuses}
 use Rattle.spi_flash.specs.declared.error.FlashError.{FlashError}
 use Rattle.spi_flash.specs.declared.loan.Takes.{Takes}
 use Rattle.tape.specs.Record.{takenAt, dataOf, spentOf, replyOf}
 use Rattle.tape.specs.declared.record.Record.{Record}
-use Rattle.tape_runs.specs.Player.{Last, acts, refuses, frame, Player}
+use Rattle.tape_runs.specs.Player.{frame, Player}
 
 -- the one holds just where the other does
 abbrev pub Just : Type 0 → Type 0 → Type 0
@@ -21,7 +22,7 @@ Just A B = (A → B) × (B → A)
 
 module _ {R F C A : Type 0} (player : Player R F C A) where
   -- what the next step of a replay gives, with the lent bytes
-  abbrev pub stepGives : R → List ℕ → Lent → Last A
+  abbrev pub stepGives : R → List ℕ → Lent → Given A
   stepGives r tape l = player .last (player .advance r tape l .replay)
 
   -- what stands at the reader's position

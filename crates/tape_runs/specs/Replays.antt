@@ -9,17 +9,19 @@ use Rattle.spi_flash.specs.Loan.{Lent}
 use Rattle.spi_flash.specs.Run as Run
 use Rattle.spi_flash.specs.Run.{Event, reply, call, Entry, System, goesOn}
 use Rattle.spi_flash.specs.Seen.{Did, did}
+use Rattle.spi_flash.specs.Shape.{Given, acts, ends, fails, refuses}
 use Rattle.spi_flash.specs.declared.error.FlashError.{FlashError}
+use Rattle.flash_runs.specs.System.{shownAs}
 use Rattle.tape.specs.Tape.{TapeRecord}
 use Rattle.tape.specs.Judge.{acceptedOf, firstOf}
 use Rattle.tape.specs.Records.{recordsFrom}
-use Rattle.tape_runs.specs.Player.{Last, acts, ends, fails, refuses, shownAs, Played, Player}
+use Rattle.tape_runs.specs.Player.{Played, Player}
 
 -- ---- what a replay gives
 
 module _ {R F C A : Type 0} (player : Player R F C A) where
   -- a step performs the action that is out; an end stays
-  abbrev pub playedThen : Last A → Played R → (R → List (Did A)) → List (Did A)
+  abbrev pub playedThen : Given A → Played R → (R → List (Did A)) → List (Did A)
   playedThen (acts action) p later =
       did (shownAs (player .last (p .replay)) (p .left .scratch) (p .left .given)) (p .left .buffer) ∷ later (p .replay)
   playedThen (ends a) p later = []

@@ -1,4 +1,4 @@
-use Rattle.nand_driver.specs.Call.{idleOf}
+use Rattle.spi_flash.specs.Beginning.{atRest}
 use borrow.Author.Needs.{needs}
 use Rattle.nand_driver.proofs.call.idle.Statement.{statement}
 use Rattle.nand_driver.proofs.call.idle.Tie as tie
@@ -10,7 +10,7 @@ construct-requires : tie.Need-construct-requires
 construct-requires c κs = search needs
 
 returns : tie.Need-returns
-unfolding idleOf
+unfolding atRest
 returns c = simp (c .before .before .opening .given .1, ← c .construct .ensures)
 
 enum-known-opening-2 : tie.Need-enum-known-opening-2
@@ -20,7 +20,7 @@ told-requires : tie.Need-told-requires
 told-requires c κs = search needs
 
 returns-2 : tie.Need-returns-2
-unfolding idleOf
+unfolding atRest
 returns-2 c = simp (c .before .before .opening2 .given .1, ← c .told .ensures)
 
 enum-told : tie.Need-enum-told
@@ -30,7 +30,7 @@ freed-requires : tie.Need-freed-requires
 freed-requires c κs = search needs
 
 returns-3 : tie.Need-returns-3
-unfolding idleOf
+unfolding atRest
 returns-3 c = simp (c .before .enum-told .given .1, ← c .freed .ensures)
 
 enum-known-opening-3 : tie.Need-enum-known-opening-3
@@ -40,7 +40,7 @@ begun-requires : tie.Need-begun-requires
 begun-requires c κs = search needs
 
 returns-4 : tie.Need-returns-4
-unfolding idleOf
+unfolding atRest
 returns-4 c = simp (c .before .before .opening3 .given .1, ← c .begun .ensures)
 
 pub idle-spec : {M : Type 1} → statement M

@@ -5,7 +5,9 @@ use types.Run.{OneOf, miss}
 use denote.Enum.Declared.{tagOf}
 use Rattle.nand_driver.specs.declared.state.Given.{Given}
 use Rattle.nand_driver.proofs.state.Given as G
-use Rattle.nand_tape.specs.Replay.{Played, playedTo, advancedThen, advancedOver}
+use Rattle.nand_driver.specs.Settle.{givenAs}
+use Rattle.tape.specs.Replaying.{advancedThen, advancedOver}
+use Rattle.nand_tape.specs.Replay.{nandTaped, Played, playedTo}
 use Rattle.nand_tape.specs.declared.replay.Replay.{Replay}
 use borrow.Author.Needs.{needs}
 use Rattle.nand_tape.proofs.replay.advance.Statement.{statement}
@@ -44,7 +46,7 @@ unfolding advancedOver advancedThen
 returns-2 c = simp (c .before .before .before .before .before .before .before .if1 .left, c .before .before .before .before .before .before .before .before .before .before .given .given .1, ← c .before .before .before .before .plain .ensures, ← c .before .before .before .before .before .before .before .before .on-bus .ensures)
 
 -- every other answer is an end, which stays
-stays : (given : Given) (replay : Replay) (tape scratch buffer lent : List ℕ) (p : Played) → OneOf (1 ∷ 2 ∷ 3 ∷ []) (tagOf G.the-type given) → p ≡ playedTo replay scratch buffer → p ≡ advancedThen given replay tape scratch buffer lent
+stays : (given : Given) (replay : Replay) (tape scratch buffer lent : List ℕ) (p : Played) → OneOf (1 ∷ 2 ∷ 3 ∷ []) (tagOf G.the-type given) → p ≡ playedTo replay scratch buffer → p ≡ advancedThen nandTaped (givenAs given) replay tape scratch buffer lent
 unfolding advancedThen
 stays (Given.Act action) replay tape scratch buffer lent p one e = absurd (miss (1 ∷ 2 ∷ 3 ∷ []) 0 tt one)
 stays (Given.Ended answer) replay tape scratch buffer lent p one e = e
@@ -53,7 +55,7 @@ stays (Given.Refused error) replay tape scratch buffer lent p one e = e
 
 returns-3 : tie.Need-returns-3
 unfolding advancedOver
-returns-3 c = stays _ _ _ _ _ _ _ (c .match .keys2) refl
+returns-3 c = stays (c .before .before .before .before .before .before .before .args .replay .stepped .given) _ _ _ _ _ _ (c .match .keys2) refl
 
 pub advance-spec : {M : Type 1} → statement M
 advance-spec =

@@ -1,4 +1,4 @@
-use Rattle.nand_tape.specs.Replay.{begunOver}
+use Rattle.tape.specs.Replaying.{begunOver}
 use borrow.Author.Needs.{needs}
 use Rattle.nand_tape.proofs.replay.begin.Statement.{statement}
 use Rattle.nand_tape.proofs.replay.begin.Tie as tie

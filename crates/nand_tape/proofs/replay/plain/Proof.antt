@@ -1,4 +1,4 @@
-use Rattle.nand_tape.specs.Replay.{plainOver}
+use Rattle.tape.specs.Replaying.{plainOver}
 use borrow.Author.Needs.{needs}
 use Rattle.nand_tape.proofs.replay.plain.Statement.{statement}
 use Rattle.nand_tape.proofs.replay.plain.Tie as tie

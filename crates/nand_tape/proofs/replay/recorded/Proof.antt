@@ -1,4 +1,4 @@
-use Rattle.nand_tape.specs.Replay.{recordOver}
+use Rattle.tape.specs.Replaying.{recordOver}
 use borrow.Author.Needs.{needs}
 use Rattle.nand_tape.proofs.replay.recorded.Statement.{statement}
 use Rattle.nand_tape.proofs.replay.recorded.Tie as tie

@@ -1,4 +1,4 @@
-use Rattle.nor_reply.specs.Step.{proceedOf}
+use Rattle.spi_flash.specs.Replying.{proceeds}
 use borrow.Author.Needs.{needs}
 use Rattle.nor_reply.proofs.step.proceed.Statement.{statement}
 use Rattle.nor_reply.proofs.step.proceed.Tie as tie
@@ -25,7 +25,7 @@ same-length-2 : tie.Need-same-length-2
 same-length-2 c = search needs
 
 returns : tie.Need-returns
-unfolding proceedOf
+unfolding proceeds
 returns c = simp (c .before .enum-told .given .1, c .before .before .before .before .before .before .before .before .before .before .if1 .taken, ← c .refused .ensures, ← c .before .before .before .before .before .before .before .exchange .ensures, ← c .before .before .before .before .before .before .before .before .before .before .before .ready .ensures, ← c .before .before .before .before .before .before .before .before .before .before .before .before .delivered-by .ensures)
 
 enum-known-frame : tie.Need-enum-known-frame
@@ -41,7 +41,7 @@ same-length-4 : tie.Need-same-length-4
 same-length-4 c = search needs
 
 returns-2 : tie.Need-returns-2
-unfolding proceedOf
+unfolding proceeds
 returns-2 c = simp (c .before .before .frame .given .1, c .before .before .before .before .before .before .before .before .before .before .before .if1 .taken, ← c .gave .ensures, ← c .before .before .before .before .before .before .before .before .exchange .ensures, ← c .before .before .before .before .before .before .before .before .before .before .before .before .ready .ensures, ← c .before .before .before .before .before .before .before .before .before .before .before .before .before .delivered-by .ensures)
 
 enum-known-outcome : tie.Need-enum-known-outcome
@@ -57,14 +57,14 @@ same-length-6 : tie.Need-same-length-6
 same-length-6 c = search needs
 
 returns-3 : tie.Need-returns-3
-unfolding proceedOf
+unfolding proceeds
 returns-3 c = simp (c .before .before .outcome .given .1, c .before .before .before .before .before .before .before .before .before .before .before .if1 .taken, ← c .over .ensures, ← c .before .before .before .before .before .before .before .before .exchange .ensures, ← c .before .before .before .before .before .before .before .before .before .before .before .before .ready .ensures, ← c .before .before .before .before .before .before .before .before .before .before .before .before .before .delivered-by .ensures)
 
 refused-requires-2 : tie.Need-refused-requires-2
 refused-requires-2 c κs = search needs
 
 returns-4 : tie.Need-returns-4
-unfolding proceedOf
+unfolding proceeds
 returns-4 c = simp (c .before .if1 .left, ← c .refused2 .ensures, ← c .before .before .ready .ensures, ← c .before .before .before .delivered-by .ensures)
 
 pub proceed-spec : {M : Type 1} → statement M

@@ -1,4 +1,4 @@
-use Rattle.nor_reply.specs.Step.{stepOf}
+use Rattle.spi_flash.specs.Replying.{steps}
 use borrow.Author.Needs.{needs}
 use Rattle.nor_reply.proofs.step.step.Statement.{statement}
 use Rattle.nor_reply.proofs.step.step.Tie as tie
@@ -16,7 +16,7 @@ proceed-requires : tie.Need-proceed-requires
 proceed-requires c κs = search needs
 
 returns : tie.Need-returns
-unfolding stepOf
+unfolding steps
 returns c = simp (c .before .enum-told .given .1, ← c .refused .ensures)
 
 same-length : tie.Need-same-length
@@ -26,7 +26,7 @@ same-length-2 : tie.Need-same-length-2
 same-length-2 c = search needs
 
 returns-2 : tie.Need-returns-2
-unfolding stepOf
+unfolding steps
 returns-2 c = simp (c .before .before .before .before .before .before .before .before .running .given .1, ← c .before .before .before .before .proceed .ensures)
 
 pub step-spec : {M : Type 1} → statement M

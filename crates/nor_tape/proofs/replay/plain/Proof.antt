@@ -1,4 +1,4 @@
-use Rattle.nor_tape.specs.Replay.{plainOver}
+use Rattle.tape.specs.Replaying.{plainOver}
 use borrow.Author.Needs.{needs}
 use Rattle.nor_tape.proofs.replay.plain.Statement.{statement}
 use Rattle.nor_tape.proofs.replay.plain.Tie as tie

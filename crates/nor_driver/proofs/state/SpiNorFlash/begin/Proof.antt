@@ -1,4 +1,4 @@
-use Rattle.nor_driver.specs.Call.{beginOf}
+use Rattle.spi_flash.specs.Beginning.{begins}
 use borrow.Author.Needs.{needs}
 use Rattle.nor_driver.proofs.state.SpiNorFlash.begin.Statement.{statement}
 use Rattle.nor_driver.proofs.state.SpiNorFlash.begin.Tie as tie
@@ -19,11 +19,11 @@ refused-requires : tie.Need-refused-requires
 refused-requires c κs = search needs
 
 returns : tie.Need-returns
-unfolding beginOf
+unfolding begins
 returns c = simp (c .before .before .enum-told .given .1, ← c .idle .ensures, ← c .before .opening-of .ensures)
 
 returns-2 : tie.Need-returns-2
-unfolding beginOf
+unfolding begins
 returns-2 c = simp (c .before .enum-told2 .given .1, ← c .refused .ensures)
 
 pub begin-spec : {M : Type 1} → statement M
