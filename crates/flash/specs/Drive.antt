@@ -3,6 +3,7 @@ use Prim.Native.Nat.{ℕ}
 use mathlib.Core.List.{List}
 use Rattle.qspi.specs.declared.bus.Reply.{Reply}
 use Rattle.spi_flash.specs.declared.error.FlashError.{FlashError}
+pub use Rattle.spi_flash.specs.Replying.{Moved, movedTo}
 use Rattle.nor_driver.specs.Call as norCall
 use Rattle.nor_reply.specs.Step as norStep
 use Rattle.nor_driver.specs.declared.state.Given as norGives
@@ -70,27 +71,18 @@ beginOf (Flash.Nand flash) call s b d = nandBegun flash call s b d
 
 -- ---- a reply
 
--- the result of a step, and the lent bytes after it
-pub record Moved : Type 0 where
-  pub stepped : Stepped
-  pub scratch : List ℕ
-  pub buffer : List ℕ
-
-abbrev pub movedTo : Stepped → List ℕ → List ℕ → Moved
-movedTo x scratch buffer = record { stepped = x; scratch = scratch; buffer = buffer }
-
-abbrev pub norMoved : norStep.Moved → Moved
+abbrev pub norMoved : Moved norState.Stepped → Moved Stepped
 norMoved m = movedTo (norStepped (m .stepped)) (m .scratch) (m .buffer)
 
-abbrev pub nandMoved : nandStep.Moved → Moved
+abbrev pub nandMoved : Moved nandState.Stepped → Moved Stepped
 nandMoved m = movedTo (nandStepped (m .stepped)) (m .scratch) (m .buffer)
 
-unfoldable pub norMovedOf : SpiNorFlash → Reply → List ℕ → List ℕ → List ℕ → List ℕ → Moved
+unfoldable pub norMovedOf : SpiNorFlash → Reply → List ℕ → List ℕ → List ℕ → List ℕ → Moved Stepped
 norMovedOf flash reply bytes scratch buffer lent = norMoved (norStep.stepOf flash reply bytes scratch buffer lent)
 
-unfoldable pub nandMovedOf : SpiNandFlash → Reply → List ℕ → List ℕ → List ℕ → List ℕ → Moved
+unfoldable pub nandMovedOf : SpiNandFlash → Reply → List ℕ → List ℕ → List ℕ → List ℕ → Moved Stepped
 nandMovedOf flash reply bytes scratch buffer lent = nandMoved (nandStep.stepOf flash reply bytes scratch buffer lent)
 
-unfoldable pub stepOf : Flash → Reply → List ℕ → List ℕ → List ℕ → List ℕ → Moved
+unfoldable pub stepOf : Flash → Reply → List ℕ → List ℕ → List ℕ → List ℕ → Moved Stepped
 stepOf (Flash.Nor flash) reply bytes scratch buffer lent = norMovedOf flash reply bytes scratch buffer lent
 stepOf (Flash.Nand flash) reply bytes scratch buffer lent = nandMovedOf flash reply bytes scratch buffer lent

@@ -15,32 +15,32 @@ use Rattle.flash.specs.declared.state.Stepped.{Stepped}
 use Rattle.flash_words.specs.declared.asked.Ask.{Ask}
 
 -- a call handed to the driver, with what it lends in the room
-unfoldable pub begunOver : Flash → Call → Takes → List ℕ → List ℕ → Moved
+unfoldable pub begunOver : Flash → Call → Takes → List ℕ → List ℕ → Moved Stepped
 begunOver flash call takes scratch room =
     movedTo (beginOf flash call (length scratch) (length (bufferOf takes room)) (length (dataOf takes room))) scratch room
 
 -- ---- a reply to the action that is out
 
 -- the room as it was
-abbrev pub keptOver : List ℕ → Moved → Moved
+abbrev pub keptOver : List ℕ → Moved Stepped → Moved Stepped
 keptOver room m = movedTo (m .stepped) (m .scratch) room
 
 -- the buffer back at the beginning of the room
-abbrev pub backOver : ℕ → List ℕ → Moved → Moved
+abbrev pub backOver : ℕ → List ℕ → Moved Stepped → Moved Stepped
 backOver n room m = movedTo (m .stepped) (m .scratch) (m .buffer ++ drop n room)
 
-unfoldable pub noneOver : Flash → Reply → List ℕ → List ℕ → List ℕ → Moved
+unfoldable pub noneOver : Flash → Reply → List ℕ → List ℕ → List ℕ → Moved Stepped
 noneOver flash reply bytes scratch room = keptOver room (stepOf flash reply bytes scratch [] [])
 
-unfoldable pub bufferOver : Flash → Reply → List ℕ → ℕ → List ℕ → List ℕ → Moved
+unfoldable pub bufferOver : Flash → Reply → List ℕ → ℕ → List ℕ → List ℕ → Moved Stepped
 bufferOver flash reply bytes n scratch room =
     pick (leb n (length room)) (backOver n room (stepOf flash reply bytes scratch (take n room) []))
     (movedTo (refusedOf flash FlashError.Misfit) scratch room)
 
-unfoldable pub dataOver : Flash → Reply → List ℕ → ℕ → List ℕ → List ℕ → Moved
+unfoldable pub dataOver : Flash → Reply → List ℕ → ℕ → List ℕ → List ℕ → Moved Stepped
 dataOver flash reply bytes n scratch room = keptOver room (stepOf flash reply bytes scratch [] (take n room))
 
-unfoldable pub answeredOver : Flash → Reply → List ℕ → Takes → List ℕ → List ℕ → Moved
+unfoldable pub answeredOver : Flash → Reply → List ℕ → Takes → List ℕ → List ℕ → Moved Stepped
 answeredOver flash reply bytes Takes.Nothing scratch room = noneOver flash reply bytes scratch room
 answeredOver flash reply bytes (Takes.Buffer n) scratch room = bufferOver flash reply bytes n scratch room
 answeredOver flash reply bytes (Takes.Data n) scratch room = dataOver flash reply bytes n scratch room
@@ -48,7 +48,7 @@ answeredOver flash reply bytes (Takes.Data n) scratch room = dataOver flash repl
 -- ---- whatever a turn asks
 
 -- a reply's bytes are the first of the reply's memory; a call that is stopped stays unfinished
-unfoldable pub askedOver : Stepped → Ask → List ℕ → List ℕ → List ℕ → Moved
+unfoldable pub askedOver : Stepped → Ask → List ℕ → List ℕ → List ℕ → Moved Stepped
 askedOver stepped Ask.Nothing scratch room reply = movedTo stepped scratch room
 askedOver stepped (Ask.Begin call takes) scratch room reply = begunOver (stepped .flash) call takes scratch room
 askedOver stepped (Ask.Answer by n takes) scratch room reply = answeredOver (stepped .flash) by (take n reply) takes scratch room

@@ -5,8 +5,8 @@ use Rattle.qspi.specs.declared.bus.Action.{Action}
 use Rattle.qspi.specs.declared.bus.Reply.{Reply}
 use Rattle.frames.specs.declared.frame.Frame.{Frame}
 use Rattle.frames.specs.declared.frame.Outcome.{Outcome}
-use Rattle.spi_flash.specs.Replying as Replying
 use Rattle.spi_flash.specs.Replying.{gave, over, proceeds, steps, deliveredIn}
+pub use Rattle.spi_flash.specs.Replying.{Moved, movedTo}
 use Rattle.spi_flash.specs.Shape as Shape
 use Rattle.nand_answers.specs.declared.answer.Answer.{Answer}
 use Rattle.nand_phases.specs.declared.phase.Phase.{Phase}
@@ -16,12 +16,6 @@ use Rattle.nand_driver.specs.Settle.{thenAs, jobAs, nandShape}
 use Rattle.nand_driver.specs.declared.state.Job.{Job}
 use Rattle.nand_driver.specs.declared.state.SpiNandFlash.{SpiNandFlash}
 use Rattle.nand_driver.specs.declared.state.Stepped.{Stepped}
-
-abbrev pub Moved : Type 0
-Moved = Replying.Moved Stepped
-
-abbrev pub movedTo : Stepped → List ℕ → List ℕ → Moved
-movedTo = Replying.movedTo
 
 -- what follows each transfer
 abbrev pub nandNext : Setup → Phase → Outcome → Shape.Then Setup Phase Answer
@@ -33,10 +27,10 @@ gaveOf flash job = gave nandShape nandNext flash (jobAs job)
 abbrev pub overOf : SpiNandFlash → Job → Outcome → Stepped
 overOf flash job = over nandShape nandNext flash (jobAs job)
 
-abbrev pub proceedOf : SpiNandFlash → Job → Reply → List ℕ → List ℕ → List ℕ → List ℕ → Moved
+abbrev pub proceedOf : SpiNandFlash → Job → Reply → List ℕ → List ℕ → List ℕ → List ℕ → Moved Stepped
 proceedOf flash job = proceeds nandShape nandNext flash (jobAs job)
 
-abbrev pub stepOf : SpiNandFlash → Reply → List ℕ → List ℕ → List ℕ → List ℕ → Moved
+abbrev pub stepOf : SpiNandFlash → Reply → List ℕ → List ℕ → List ℕ → List ℕ → Moved Stepped
 stepOf = steps nandShape nandNext
 
 abbrev pub deliveredPart : SpiNandFlash → List ℕ → List ℕ

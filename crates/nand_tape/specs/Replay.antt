@@ -3,6 +3,7 @@ use Prim.Native.Nat.{ℕ}
 use mathlib.Core.List.{List}
 use Rattle.tape.specs.Replaying as Replaying
 use Rattle.tape.specs.Replaying.{Taped}
+pub use Rattle.tape.specs.Replaying.{Played, playedTo}
 use Rattle.nand_answers.specs.declared.answer.Answer.{Answer}
 use Rattle.nand_phases.specs.declared.call.Call.{Call}
 use Rattle.nand_phases.specs.declared.phase.Phase.{Phase}
@@ -28,20 +29,14 @@ nandTaped =
       at = λ replay. replay .at;
     }
 
-abbrev pub Played : Type 0
-Played = Replaying.Played Replay
-
-abbrev pub playedTo : Replay → List ℕ → List ℕ → Played
-playedTo = Replaying.playedTo
-
 abbrev pub begunOver : SpiNandFlash → Call → List ℕ → ℕ → ℕ → ℕ → Replay
 begunOver = Replaying.begunOver nandTaped
 
-abbrev pub plainOver : SpiNandFlash → ℕ → List ℕ → List ℕ → List ℕ → Played
+abbrev pub plainOver : SpiNandFlash → ℕ → List ℕ → List ℕ → List ℕ → Played Replay
 plainOver = Replaying.plainOver nandTaped
 
-abbrev pub recordOver : SpiNandFlash → ℕ → List ℕ → List ℕ → List ℕ → List ℕ → Played
+abbrev pub recordOver : SpiNandFlash → ℕ → List ℕ → List ℕ → List ℕ → List ℕ → Played Replay
 recordOver = Replaying.recordOver nandTaped
 
-abbrev pub advancedOver : Replay → List ℕ → List ℕ → List ℕ → List ℕ → Played
+abbrev pub advancedOver : Replay → List ℕ → List ℕ → List ℕ → List ℕ → Played Replay
 advancedOver = Replaying.advancedOver nandTaped

@@ -5,8 +5,8 @@ use Rattle.qspi.specs.declared.bus.Action.{Action}
 use Rattle.qspi.specs.declared.bus.Reply.{Reply}
 use Rattle.frames.specs.declared.frame.Frame.{Frame}
 use Rattle.frames.specs.declared.frame.Outcome.{Outcome}
-use Rattle.spi_flash.specs.Replying as Replying
 use Rattle.spi_flash.specs.Replying.{gave, over, proceeds, steps, deliveredIn}
+pub use Rattle.spi_flash.specs.Replying.{Moved, movedTo}
 use Rattle.spi_flash.specs.Shape as Shape
 use Rattle.nor_answers.specs.declared.answer.Answer.{Answer}
 use Rattle.nor_phases.specs.declared.phase.Phase.{Phase}
@@ -16,12 +16,6 @@ use Rattle.nor_driver.specs.Settle.{thenAs, jobAs, norShape}
 use Rattle.nor_driver.specs.declared.state.Job.{Job}
 use Rattle.nor_driver.specs.declared.state.SpiNorFlash.{SpiNorFlash}
 use Rattle.nor_driver.specs.declared.state.Stepped.{Stepped}
-
-abbrev pub Moved : Type 0
-Moved = Replying.Moved Stepped
-
-abbrev pub movedTo : Stepped → List ℕ → List ℕ → Moved
-movedTo = Replying.movedTo
 
 -- what follows each transfer
 abbrev pub norNext : Setup → Phase → Outcome → Shape.Then Setup Phase Answer
@@ -33,10 +27,10 @@ gaveOf flash job = gave norShape norNext flash (jobAs job)
 abbrev pub overOf : SpiNorFlash → Job → Outcome → Stepped
 overOf flash job = over norShape norNext flash (jobAs job)
 
-abbrev pub proceedOf : SpiNorFlash → Job → Reply → List ℕ → List ℕ → List ℕ → List ℕ → Moved
+abbrev pub proceedOf : SpiNorFlash → Job → Reply → List ℕ → List ℕ → List ℕ → List ℕ → Moved Stepped
 proceedOf flash job = proceeds norShape norNext flash (jobAs job)
 
-abbrev pub stepOf : SpiNorFlash → Reply → List ℕ → List ℕ → List ℕ → List ℕ → Moved
+abbrev pub stepOf : SpiNorFlash → Reply → List ℕ → List ℕ → List ℕ → List ℕ → Moved Stepped
 stepOf = steps norShape norNext
 
 abbrev pub deliveredPart : SpiNorFlash → List ℕ → List ℕ

@@ -3,6 +3,7 @@ use Prim.Native.Nat.{ℕ}
 use mathlib.Core.List.{List}
 use Rattle.tape.specs.Replaying as Replaying
 use Rattle.tape.specs.Replaying.{Taped}
+pub use Rattle.tape.specs.Replaying.{Played, playedTo}
 use Rattle.nor_answers.specs.declared.answer.Answer.{Answer}
 use Rattle.nor_phases.specs.declared.call.Call.{Call}
 use Rattle.nor_phases.specs.declared.phase.Phase.{Phase}
@@ -28,20 +29,14 @@ norTaped =
       at = λ replay. replay .at;
     }
 
-abbrev pub Played : Type 0
-Played = Replaying.Played Replay
-
-abbrev pub playedTo : Replay → List ℕ → List ℕ → Played
-playedTo = Replaying.playedTo
-
 abbrev pub begunOver : SpiNorFlash → Call → List ℕ → ℕ → ℕ → ℕ → Replay
 begunOver = Replaying.begunOver norTaped
 
-abbrev pub plainOver : SpiNorFlash → ℕ → List ℕ → List ℕ → List ℕ → Played
+abbrev pub plainOver : SpiNorFlash → ℕ → List ℕ → List ℕ → List ℕ → Played Replay
 plainOver = Replaying.plainOver norTaped
 
-abbrev pub recordOver : SpiNorFlash → ℕ → List ℕ → List ℕ → List ℕ → List ℕ → Played
+abbrev pub recordOver : SpiNorFlash → ℕ → List ℕ → List ℕ → List ℕ → List ℕ → Played Replay
 recordOver = Replaying.recordOver norTaped
 
-abbrev pub advancedOver : Replay → List ℕ → List ℕ → List ℕ → List ℕ → Played
+abbrev pub advancedOver : Replay → List ℕ → List ℕ → List ℕ → List ℕ → Played Replay
 advancedOver = Replaying.advancedOver norTaped

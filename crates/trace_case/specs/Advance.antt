@@ -22,7 +22,7 @@ abbrev pub turnedTo : Trace → List ℕ → List ℕ → List ℕ → Text → 
 turnedTo trace scratch room reply text = record { trace = trace; scratch = scratch; room = room; reply = reply; text = text }
 
 -- the driver has answered
-abbrev pub turnedBy : Takes → Moved → Turned
+abbrev pub turnedBy : Takes → Moved Stepped → Turned
 turnedBy t m =
     turnedTo (traceOf (m .stepped) (t .settings) (begunIn (t .place) (t .ask) (m .stepped .given))) (m .scratch) (m .buffer) (t .reply) (t .text)
 
