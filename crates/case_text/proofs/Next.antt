@@ -1,7 +1,7 @@
 -- Where the next line begins, at what the code's tests told.
 use Prim.Native.Nat.{ℕ, _+_, _-_, _<_, _≤_}
 use native.Mathlib.Omega.{arith}
-use mathlib.Core.Path.{_≡_, refl, ap, _∙_}
+use mathlib.Core.Path.{_≡_, ap, _∙_}
 use mathlib.Core.List.{List}
 use lib.ListN.{length, drop}
 use Rattle.qspi.proofs.Tests.{tests}

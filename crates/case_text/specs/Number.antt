@@ -1,5 +1,5 @@
 -- Numbers and bytes as the text writes them.
-use Prim.Native.Nat.{ℕ, suc, _+_, _-_, _*_, _%_}
+use Prim.Native.Nat.{ℕ, _+_, _-_, _*_, _%_}
 use mathlib.Core.Bool.{Bool, true, false}
 use mathlib.Core.List.{List, [], _∷_, _++_}
 use lib.ListN.{length, drop, getD}

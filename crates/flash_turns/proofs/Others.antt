@@ -1,7 +1,7 @@
 -- A driver that has given no action has ended its call; and what is no call has not begun one.
 use types.Run.{OneOf, miss}
 use denote.Enum.Declared.{tagOf}
-use mathlib.Core.List.{List, [], _∷_}
+use mathlib.Core.List.{[], _∷_}
 use mathlib.Core.Path.{_≡_, refl}
 use Rattle.spi_flash.specs.declared.loan.Takes.{Takes}
 use Rattle.trace_turns.specs.Place.{endMode}

@@ -24,7 +24,7 @@ abbrev pub nextTurn : Settings → Next → ℕ → Turn
 nextTurn settings next at = turnTo settings (next .place) (next .ask) at
 
 -- where a turn leaves the trace, what it asks, the room, the reply's memory and what was printed
-pub record Takes : Type 0 where
+pub record TurnTaken : Type 0 where
   pub settings : Settings
   pub place : Place
   pub ask : Ask
@@ -32,27 +32,27 @@ pub record Takes : Type 0 where
   pub reply : List ℕ
   pub text : Text
 
-abbrev pub takesTo : Settings → Place → Ask → List ℕ → List ℕ → Text → Takes
-takesTo settings place ask room reply text =
+abbrev pub takenTo : Settings → Place → Ask → List ℕ → List ℕ → Text → TurnTaken
+takenTo settings place ask room reply text =
     record { settings = settings; place = place; ask = ask; room = room; reply = reply; text = text }
 
-abbrev pub takesCalled : List ℕ → Called → Takes
-takesCalled reply c = takesTo (c .settings) (c .place) (c .ask) (c .room) reply (c .text)
+abbrev pub takenCalled : List ℕ → Called → TurnTaken
+takenCalled reply c = takenTo (c .settings) (c .place) (c .ask) (c .room) reply (c .text)
 
-abbrev pub takesShown : Settings → List ℕ → List ℕ → ShownAt → Takes
-takesShown settings room reply p = takesTo settings (p .place) Ask.Nothing room reply (p .text)
+abbrev pub takenShown : Settings → List ℕ → List ℕ → ShownAt → TurnTaken
+takenShown settings room reply p = takenTo settings (p .place) Ask.Nothing room reply (p .text)
 
-abbrev pub takesAnswered : Settings → List ℕ → Text → Answered → Takes
-takesAnswered settings room out a = takesTo settings (a .next .place) (a .next .ask) room (a .reply) out
+abbrev pub takenAnswered : Settings → List ℕ → Text → Answered → TurnTaken
+takenAnswered settings room out a = takenTo settings (a .next .place) (a .next .ask) room (a .reply) out
 
-abbrev pub turnAt : Mode → Settings → Place → Given → ℕ → List ℕ → List ℕ → List ℕ → List ℕ → Text → Takes
-turnAt Mode.Reading settings place given count text scratch room reply out = takesCalled reply (readingOf settings place text room out)
-turnAt Mode.Giving settings place given count text scratch room reply out = takesShown settings room reply (givingOf place given count scratch room out)
-turnAt Mode.Awaiting settings place given count text scratch room reply out = takesAnswered settings room out (answeringOf settings place given text (length room) reply)
-turnAt (Mode.Showing from) settings place given count text scratch room reply out = takesShown settings room reply (showingOf place from room out)
-turnAt Mode.Bad settings place given count text scratch room reply out = takesShown settings room reply (badOf place text out)
-turnAt Mode.Over settings place given count text scratch room reply out = takesTo settings place Ask.Nothing room reply out
+abbrev pub turnAt : Mode → Settings → Place → Given → ℕ → List ℕ → List ℕ → List ℕ → List ℕ → Text → TurnTaken
+turnAt Mode.Reading settings place given count text scratch room reply out = takenCalled reply (readingOf settings place text room out)
+turnAt Mode.Giving settings place given count text scratch room reply out = takenShown settings room reply (givingOf place given count scratch room out)
+turnAt Mode.Awaiting settings place given count text scratch room reply out = takenAnswered settings room out (answeringOf settings place given text (length room) reply)
+turnAt (Mode.Showing from) settings place given count text scratch room reply out = takenShown settings room reply (showingOf place from room out)
+turnAt Mode.Bad settings place given count text scratch room reply out = takenShown settings room reply (badOf place text out)
+turnAt Mode.Over settings place given count text scratch room reply out = takenTo settings place Ask.Nothing room reply out
 
 -- one turn; a trace that is over stays
-unfoldable pub turnOf : Settings → Place → Given → ℕ → List ℕ → List ℕ → List ℕ → List ℕ → Text → Takes
+unfoldable pub turnOf : Settings → Place → Given → ℕ → List ℕ → List ℕ → List ℕ → List ℕ → Text → TurnTaken
 turnOf settings place given count text scratch room reply out = turnAt (place .mode) settings place given count text scratch room reply out

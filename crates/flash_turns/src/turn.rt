@@ -14,7 +14,7 @@ use trace_turns::show;
 use trace_turns::show::Shown;
 ghost use mathlib.Core.Path.{_≡_};
 ghost use Rattle.lines.specs.Text.{textOf};
-ghost use Rattle.flash_turns.specs.Turn.{shownTurn, nextTurn, takesTo, turnOf};
+ghost use Rattle.flash_turns.specs.Turn.{shownTurn, nextTurn, takenTo, turnOf};
 
 fn shown(settings: Settings, after: Shown) -> Turn
     ensures { λ r. ⌜ r ≡ shownTurn settings after ⌝ }
@@ -44,7 +44,7 @@ pub fn turn(
     out: &mut [u8],
     at: usize,
 ) -> Turn
-    ensures { λ r. ⌜ takesTo (r .settings) (r .place) (r .ask) (now (room .exit)) (now (reply .exit)) (textOf (now (out .exit)) (r .at)) ≡ turnOf settings place given count (now (text .entry)) (now (scratch .entry)) (now (room .entry)) (now (reply .entry)) (textOf (now (out .entry)) at) ⌝ }
+    ensures { λ r. ⌜ takenTo (r .settings) (r .place) (r .ask) (now (room .exit)) (now (reply .exit)) (textOf (now (out .exit)) (r .at)) ≡ turnOf settings place given count (now (text .entry)) (now (scratch .entry)) (now (room .entry)) (now (reply .entry)) (textOf (now (out .entry)) at) ⌝ }
 {
     let mode = place.mode;
     match mode {

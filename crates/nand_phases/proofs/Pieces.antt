@@ -2,7 +2,7 @@
 use Prim.Native.Nat.{ℕ, _+_, _-_, _<_}
 use native.Mathlib.Omega.{arith}
 use lib.Dec.{leb, ltb}
-use borrow.Author.Tests.{leb-true, leb-false, ltb-true}
+use borrow.Author.Tests.{leb-false, ltb-true}
 use Rattle.qspi.proofs.Cases.{by-cases}
 use Rattle.spi_nand.specs.declared.config.NandGeometry.{NandGeometry}
 use Rattle.nand_phases.specs.Transfer.{placeOf, columnAt, chunkOf, FILLER-CHUNK, fillerOf}

@@ -1,13 +1,12 @@
 -- A construction does what the Rust's does, where its page is taken; else it ends behind the identification.
 use Prim.Native.Nat.{ℕ, _%_}
-use mathlib.Core.Bool.{Bool, true, false, not, true≢false}
+use mathlib.Core.Bool.{true, false, not, true≢false}
 use mathlib.Core.Path.{_≡_, refl, ap, sym, _∙_, fun-ext}
 use lib.Dec.{ltb, leb}
 use borrow.Author.Tests.{leb-true, le-leb, le-ltb}
-use Rattle.qspi.specs.Choice.{pick}
 use Rattle.qspi.specs.declared.transfer.Transfer.{Transfer}
 use Rattle.qspi.proofs.Cases.{by-cases}
-use Rattle.spi_flash.specs.Prog.{Prog, ret, fail, ask, if_then_else_, _>>=_, _>>_, refuse, transfer}
+use Rattle.spi_flash.specs.Prog.{Prog, ret, fail, ask, if_then_else_, _>>=_, _>>_, refuse}
 use Rattle.spi_flash.specs.declared.error.FlashError.{FlashError}
 use Rattle.flash_runs.proofs.General.{place}
 use Rattle.spi_nand.specs.Opcode.{REG-CONFIGURATION, REG-BLOCK-PROTECTION}
@@ -20,7 +19,7 @@ use Rattle.spi_nand.specs.declared.config.SpiNandConfig.{SpiNandConfig}
 use Rattle.spi_nand.specs.declared.status.Configuration.{Configuration}
 use Rattle.spi_nand.specs.declared.status.Protection.{Protection}
 use Rattle.spi_nand.proofs.Geometries.{geometries-hold}
-use Rattle.nand_phases.specs.Setup.{initOf, setupOf, identifiedAs, withBefore, withProtection}
+use Rattle.nand_phases.specs.Setup.{initOf, setupOf, identifiedAs, withBefore}
 use Rattle.nand_phases.specs.Transfer.{registerTransfer}
 use Rattle.nand_phases.specs.declared.call.Call.{Call}
 use Rattle.nand_phases.specs.declared.phase.Phase.{Phase}
@@ -28,9 +27,9 @@ use Rattle.nand_phases.specs.declared.setup.Setup.{Setup}
 use Rattle.nand_steps.specs.Register.{geometryAt, geometryFor}
 use Rattle.nand_driver.specs.Call.{givenAt, freshSetup}
 use Rattle.nand_rust.specs.Rust.{Nothing, MAX-VERIFY-PAGE-SIZE, wanted-of, read-configuration, read-protection, write-register, reset, jedec-id, reset-and-identify, ensure-configuration, unprotect, bring-up, resolved, constructed, with-config}
-use Rattle.nand_rust.specs.Program.{Left, pageTaken, largePage, refused-page, programOf, rustProgram}
+use Rattle.nand_rust.specs.Program.{Left, pageTaken, refused-page, programOf, rustProgram}
 use Rattle.nand_runs.proofs.Meaning.{DONE, brought-up, unprotected, unprotect-on, configured, check-configured, configure-on, identified, meaningAt, meaning}
-use Rattle.nand_runs.proofs.Simulation.{bind-assoc, then-assoc}
+use Rattle.nand_runs.proofs.Simulation.{bind-assoc}
 
 -- ---- bring_up behind the identification
 

@@ -1,7 +1,7 @@
 -- What a call keeps from transfer to transfer: one walk through its phases, for whatever is said of what follows.
 use Prim.Native.Nat.{ℕ, _+_, _%_}
 use mathlib.Core.Bool.{Bool, true, false}
-use mathlib.Core.Path.{_≡_, refl, subst, sym}
+use mathlib.Core.Path.{_≡_, refl}
 use lib.Dec.{ltb, leb, eqb}
 use Rattle.qspi.specs.Choice.{pick}
 use Rattle.qspi.specs.declared.transfer.Payload.{Payload}
@@ -12,7 +12,7 @@ use Rattle.spi_flash.specs.Machine.{Onward}
 use Rattle.spi_flash.specs.Wait.{firstWait, nextWait}
 use Rattle.spi_flash.specs.declared.error.FlashError.{FlashError}
 use Rattle.spi_flash.specs.declared.wait.Wait.{Wait}
-use Rattle.spi_nand.specs.Config.{inBounds, pageCountOf, fromJedec, firstPageOf}
+use Rattle.spi_nand.specs.Config.{inBounds, pageCountOf, firstPageOf}
 use Rattle.spi_nand.specs.Opcode.{timingsOf}
 use Rattle.spi_nand.specs.Status.{statusOf, busyOf, writeEnabledOf, eraseFailedOf, programFailedOf, verdictOf, configurationOf, protectionOf, quadEnabledOf, sameConfiguration, isUnlocked}
 use Rattle.spi_nand.specs.declared.config.GeometrySetting.{GeometrySetting}

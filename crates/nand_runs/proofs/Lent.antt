@@ -1,22 +1,19 @@
 -- What each call does with the caller's buffer: read, read_page and read_cache fill it place after place, no other call reads into it.
-use Prim.Native.Nat.{ℕ, zero, suc, _+_, _-_, _≤_, _<_}
+use Prim.Native.Nat.{ℕ, zero, suc, _+_, _-_, _≤_}
 use native.Mathlib.Omega.{arith}
-use mathlib.Core.Bool.{Bool, true, false, not}
+use mathlib.Core.Bool.{true, not}
 use mathlib.Core.Path.{_≡_, refl}
 use lib.Dec.{ltb, eqb}
 use borrow.Author.Tests.{ltb-true, le-ltb}
-use Rattle.qspi.specs.declared.command.Command.{Command}
 use Rattle.qspi.specs.declared.transfer.Payload.{Payload}
 use Rattle.qspi.specs.declared.transfer.Sink.{Sink}
-use Rattle.qspi.specs.declared.transfer.Transfer.{Transfer}
 use Rattle.qspi.proofs.Cases.{by-cases}
 use Rattle.spi_flash.specs.Path.{Bounded}
-use Rattle.spi_flash.specs.Prog.{Prog, ret, fail, ask, _>>=_, _>>_, refuse, transfer}
-use Rattle.spi_flash.specs.WaitLaw.{delayedWait}
+use Rattle.spi_flash.specs.Prog.{Prog, ret, _>>=_, _>>_, refuse, transfer}
 use Rattle.spi_flash.specs.declared.error.FlashError.{FlashError}
 use Rattle.spi_flash.proofs.Laws.{bounded-more, bounded-ret, answered, ended}
 use Rattle.spi_flash.proofs.Unread.{bufferReads, unread-delayed}
-use Rattle.flash_runs.specs.Driver.{leaving, takesOf}
+use Rattle.flash_runs.specs.Driver.{takesOf}
 use Rattle.flash_runs.proofs.Filling.{Fills}
 use Rattle.flash_runs.proofs.Quiet.{Quiet, quiet-bind, quiet-then, quiet-refuse, quiet-ret, quiet-transfer, quiet-wait, fills-after}
 use Rattle.flash_runs.proofs.Supplies.{Bounds, LendsAs}
@@ -28,8 +25,7 @@ use Rattle.spi_nand.specs.declared.config.QuadSetting.{QuadSetting}
 use Rattle.spi_nand.specs.declared.config.SpiNandConfig.{SpiNandConfig}
 use Rattle.spi_nand.specs.declared.opcode.Operation.{Operation}
 use Rattle.spi_nand.proofs.Geometries.{geometries-hold}
-use Rattle.nand_answers.specs.declared.answer.Answer.{Answer}
-use Rattle.nand_phases.specs.Transfer.{registerTransfer, cacheReadAt, cacheReadTransfer, cacheLoadAt, inCache, inRange, placeOf, pageAt, columnAt, chunkOf}
+use Rattle.nand_phases.specs.Transfer.{cacheReadAt, cacheReadTransfer, cacheLoadAt, inCache, inRange, placeOf, pageAt, columnAt, chunkOf}
 use Rattle.nand_phases.proofs.Pieces.{chunk-within}
 use Rattle.nand_phases.specs.declared.call.Call.{Call}
 use Rattle.nand_phases.specs.declared.setup.Setup.{Setup}

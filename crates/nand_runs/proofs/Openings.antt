@@ -2,23 +2,19 @@
 use Prim.Native.Nat.{ℕ, _%_}
 use mathlib.Core.Bool.{Bool, true, false, not}
 use mathlib.Core.Path.{_≡_, refl, ap, sym, _∙_, fun-ext}
-use lib.Dec.{ltb, leb, eqb}
+use lib.Dec.{ltb, eqb}
 use borrow.Author.Tests.{eqb-true}
-use Rattle.qspi.specs.Choice.{pick}
 use Rattle.qspi.specs.declared.transfer.Payload.{Payload}
 use Rattle.qspi.specs.declared.transfer.Sink.{Sink}
-use Rattle.qspi.specs.declared.transfer.Transfer.{Transfer}
 use Rattle.qspi.proofs.Cases.{by-cases}
 use Rattle.spi_flash.specs.Machine.{tree}
-use Rattle.spi_flash.specs.Prog.{Prog, ret, fail, ask, if_then_else_, _>>=_, _>>_, refuse, transfer}
+use Rattle.spi_flash.specs.Prog.{Prog, ret, fail, ask, if_then_else_, _>>=_, _>>_, refuse}
 use Rattle.spi_flash.specs.declared.error.FlashError.{FlashError}
 use Rattle.flash_runs.specs.Driver.{leaving}
-use Rattle.flash_runs.proofs.General.{place}
 use Rattle.spi_nand.specs.Command.{resetCommand}
 use Rattle.spi_nand.specs.Config.{pageCountOf, inBounds, firstPageOf}
 use Rattle.spi_nand.specs.Opcode.{REG-STATUS, REG-CONFIGURATION, REG-BLOCK-PROTECTION}
 use Rattle.spi_nand.specs.Status.{configurationOf, configurationByte, sameConfiguration, protectionOf, isUnlocked}
-use Rattle.spi_nand.specs.declared.opcode.Operation.{Operation}
 use Rattle.spi_nand.specs.declared.status.Configuration.{Configuration}
 use Rattle.spi_nand.specs.declared.status.Protection.{Protection}
 use Rattle.nand_answers.specs.declared.answer.Answer.{Answer}
@@ -35,12 +31,11 @@ use Rattle.nand_phases.specs.declared.phase.ResetFor.{ResetFor}
 use Rattle.nand_phases.specs.declared.phase.Task.{Task}
 use Rattle.nand_phases.specs.declared.setup.Setup.{Setup}
 use Rattle.nand_steps.specs.Go.{ask as askThen, askId, send, enable}
-use Rattle.nand_pages.specs.Cache.{within, readCacheThen, loadProgramThen}
+use Rattle.nand_pages.specs.Cache.{readCacheThen, loadProgramThen}
 use Rattle.nand_pages.specs.Page.{pageReadThen, isBadThen, programThen, readPageThen, writePageThen}
 use Rattle.nand_pages.specs.Read.{readThen}
 use Rattle.nand_pages.specs.Block.{eraseThen}
-use Rattle.nand_steps.specs.declared.then.Then.{Then}
-use Rattle.nand_rust.specs.Rust.{Nothing, wanted-of, read-status, read-configuration, read-protection, wait-ready, write-enable, write-register, disable-quad, reset, jedec-id, reset-and-identify, ensure-configuration, unprotect, page-read, read-cache, load-program-data, program-execute, read-page, write-page, erase-block, read, is-bad-block, filling, mark-bad-block}
+use Rattle.nand_rust.specs.Rust.{Nothing, wanted-of, read-status, read-configuration, read-protection, write-enable, write-register, disable-quad, reset, jedec-id, reset-and-identify, ensure-configuration, unprotect, page-read, read-cache, load-program-data, program-execute, read-page, write-page, erase-block, read, is-bad-block, filling, mark-bad-block}
 use Rattle.nand_rust.specs.Program.{Left}
 use Rattle.nand_runs.proofs.Places.{decide}
 use Rattle.nand_runs.proofs.Meaning.{DONE, compared, confirmed, confirm, program-on, marker-on, fill-on, mark-on, marker-read, verify-on, program-page, read-on, accepted, loaded, after-program, after-erase, written, identify, reset-done, resumed, enabled, configured, check-configured, configure-on, unprotected, unprotect-on, check-disabled, disable-on, answered, meaningAt, meaning}

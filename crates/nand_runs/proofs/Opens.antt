@@ -7,7 +7,6 @@ use Rattle.qspi.specs.Choice.{pick}
 use Rattle.qspi.specs.declared.transfer.Payload.{Payload}
 use Rattle.qspi.specs.declared.transfer.Sink.{Sink}
 use Rattle.spi_flash.specs.Machine.{tree}
-use Rattle.spi_flash.specs.Prog.{_>>=_}
 use Rattle.spi_flash.specs.declared.loan.Takes.{Takes}
 use Rattle.flash_runs.specs.Driver.{uses}
 use Rattle.flash_runs.proofs.Supplies.{Stays, Selects, SelectsFirst, Use, OpensAs, onward-stays}

@@ -24,15 +24,14 @@ use Rattle.spi_flash.proofs.Waiting.{wait-in-general}
 use Rattle.spi_nand.specs.Command.{getFeatureCommand, setFeatureCommand, writeEnableCommand, pageReadCommand, programExecuteCommand, blockEraseCommand}
 use Rattle.spi_nand.specs.Config.{inBounds, pageCountOf, firstPageOf}
 use Rattle.spi_nand.specs.Opcode.{REG-STATUS, REG-CONFIGURATION, REG-BLOCK-PROTECTION, timingsOf}
-use Rattle.spi_nand.specs.Status.{busyValue, statusOf, busyOf, writeEnabledOf, eraseFailedOf, programFailedOf, verdictOf, configurationOf, protectionOf, configurationByte, quadEnabledOf, withBits, ECC-ENABLE, BUFFER-READ, QUAD-ENABLE, OPERATIONAL, sameConfiguration, isUnlocked}
+use Rattle.spi_nand.specs.Status.{busyValue, statusOf, writeEnabledOf, eraseFailedOf, programFailedOf, verdictOf, configurationOf, protectionOf, configurationByte, quadEnabledOf, withBits, ECC-ENABLE, BUFFER-READ, QUAD-ENABLE, OPERATIONAL, sameConfiguration, isUnlocked}
 use Rattle.spi_nand.specs.declared.opcode.Operation.{Operation}
 use Rattle.spi_nand.specs.declared.status.Configuration.{Configuration}
-use Rattle.spi_nand.specs.declared.status.EccVerdict.{EccVerdict}
 use Rattle.spi_nand.specs.declared.status.Protection.{Protection}
 use Rattle.spi_nand.specs.declared.status.Status.{Status}
 use Rattle.spi_nand.proofs.Geometries.{geometries-hold}
 use Rattle.spi_nand.proofs.WaitTable.{wait-table}
-use Rattle.nand_phases.specs.Transfer.{registerTransfer, cacheReadTransfer, cacheLoadTransfer, inCache, pageAt, placeOf, columnAt, chunkOf, fillerOf, taskOperation}
+use Rattle.nand_phases.specs.Transfer.{registerTransfer, cacheLoadTransfer, inCache, pageAt, placeOf, columnAt, chunkOf, fillerOf, taskOperation}
 use Rattle.nand_phases.specs.declared.phase.Asked.{Asked}
 use Rattle.nand_phases.specs.declared.phase.EnableFor.{EnableFor}
 use Rattle.nand_phases.specs.declared.phase.EraseFor.{EraseFor}

@@ -1,6 +1,5 @@
 -- A call whose program uses the bus was not turned away before.
 use Prim.Native.Nat.{ℕ}
-use mathlib.Core.Path.{_≡_}
 use lib.Dec.{ltb, eqb}
 use Rattle.qspi.proofs.Cases.{by-cases}
 use Rattle.spi_flash.specs.Prog.{_>>=_, _>>_, refuse}

@@ -9,7 +9,7 @@ use Rattle.qspi.specs.declared.transfer.Payload.{Payload}
 use Rattle.qspi.specs.declared.transfer.Sink.{Sink}
 use Rattle.qspi.specs.declared.transfer.Body.{Body}
 use Rattle.qspi.specs.declared.transfer.Transfer.{Transfer}
-use Rattle.spi_flash.specs.Prog.{if_then_else_, transfer}
+use Rattle.spi_flash.specs.Prog.{transfer}
 use Rattle.spi_flash.specs.Path.{Bounded}
 use Rattle.spi_flash.proofs.Laws.{bounded-more, bounded-ret, bounded-fail, bounded-bind, bounded-then, bounded-refuse, bounded-if, bounded-transfer, bounded-guard, answered, ended}
 use Rattle.spi_flash.proofs.Loops.{bounded-loop}

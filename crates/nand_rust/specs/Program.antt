@@ -12,7 +12,6 @@ use Rattle.spi_flash.specs.declared.error.FlashError.{FlashError}
 use Rattle.flash_runs.specs.Driver as Driver
 use Rattle.flash_runs.specs.Driver.{leaving}
 use Rattle.spi_nand.specs.declared.config.GeometrySetting.{GeometrySetting}
-use Rattle.spi_nand.specs.declared.config.SpiNandConfig.{SpiNandConfig}
 use Rattle.nand_answers.specs.declared.answer.Answer.{Answer}
 use Rattle.nand_phases.specs.declared.setup.Setup.{Setup}
 use Rattle.nand_phases.specs.declared.call.Call.{Call}

@@ -1,6 +1,6 @@
 -- The transfers of the calls (nor/driver.rs), at the configured bus width.
 use Prim.Native.Nat.{ℕ, _+_, _-_, _%_, _^_}
-use mathlib.Core.Bool.{Bool, true, false}
+use mathlib.Core.Bool.{Bool, false}
 use lib.Dec.{ltb, leb, eqb}
 use Rattle.qspi.specs.Transfer.{commandOnly}
 use Rattle.qspi.specs.Choice.{pick}

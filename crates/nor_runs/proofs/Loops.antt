@@ -1,12 +1,10 @@
 -- The loops of read, write and erase satisfy the Rust's equations, without fuel: each turn goes on by at least 1.
-use Prim.Native.Nat.{ℕ, zero, suc, _+_, _-_, _*_, _%_, _≤_, _<_}
+use Prim.Native.Nat.{ℕ, _+_, _-_, _*_, _%_, _≤_, _<_}
 use native.Mathlib.Omega.{arith}
 use native.Mathlib.Nat.{mod-eq-of-lt, mul-pos}
 use mathlib.Core.Bool.{Bool, true, false}
 use mathlib.Core.Path.{_≡_, refl}
-use lib.Dec.{leb, ltb}
-use borrow.Author.Tests.{leb-true, ltb-true, lt-ltb, le-ltb}
-use Rattle.qspi.specs.Choice.{pick}
+use lib.Dec.{ltb}
 use Rattle.qspi.specs.declared.transfer.Sink.{Sink}
 use Rattle.spi_flash.specs.Prog.{Prog, ret, _>>=_, _>>_, if_then_else_, refuse, transfer}
 use Rattle.spi_nor.specs.Opcode.{MAX-BULK-LEN}

@@ -5,20 +5,19 @@ use native.Mathlib.Nat.{div-add-mod', mod-lt}
 use mathlib.Core.Bool.{Bool, true, false, not}
 use mathlib.Core.Path.{_≡_, refl}
 use lib.Dec.{ltb, eqb}
-use borrow.Author.Tests.{ltb-false, eqb-true, not-false, le-ltb, le-leb}
+use borrow.Author.Tests.{ltb-false, eqb-true, not-false, le-leb}
 use Rattle.qspi.specs.Choice.{pick}
 use Rattle.qspi.specs.declared.command.Command.{Command}
 use Rattle.qspi.specs.declared.transfer.Sink.{Sink}
 use Rattle.qspi.specs.declared.transfer.Body.{Body}
 use Rattle.qspi.specs.declared.transfer.Transfer.{Transfer}
-use Rattle.spi_flash.specs.declared.error.FlashError.{FlashError}
-use Rattle.spi_flash.specs.Prog.{Prog, ret, _>>=_, _>>_, if_then_else_, refuse, transfer}
+use Rattle.spi_flash.specs.Prog.{ret, _>>_, if_then_else_, transfer}
 use Rattle.spi_flash.specs.Path.{Bounded}
 use Rattle.spi_flash.proofs.Laws.{bounded-more, bounded-ret, bounded-fail, bounded-bind, bounded-then, bounded-refuse, bounded-if, bounded-transfer, bounded-guard}
 use Rattle.spi_flash.proofs.Loops.{bounded-loop}
 use Rattle.spi_nor.specs.Status.{quadEnabled1Of, quadEnabled2Of, unprotected1Of, unprotected2Of}
 use Rattle.spi_nor.specs.Opcode.{MAX-BULK-LEN}
-use Rattle.nor_phases.specs.Transfer.{numberTransfer, chunkOf, pageOf, readAt, readTransfer, programAt, programTransfer, eraseTransfer, eraseOperation, multipleOf, stepKind, afterUnit}
+use Rattle.nor_phases.specs.Transfer.{numberTransfer, readAt, readTransfer, programAt, programTransfer, eraseTransfer, eraseOperation, multipleOf, stepKind, afterUnit}
 use Rattle.nor_driver.specs.Call.{givenAt}
 use Rattle.nor_steps.specs.Register.{deviceAt, deviceFor, idOf}
 use Rattle.nor_runs.specs.Rust.{read-status1, read-status2, is-busy, wait-ready, write-enable, write-status1, write-status2, jedec-id, unique-id, quad-enabled, enable-quad, disable-quad, reading, read, read-back, page-program, writing, write, erase-unit, erase-loop, erasing, erase, unprotect, quad-if, with-config}

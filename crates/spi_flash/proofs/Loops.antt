@@ -1,7 +1,6 @@
 -- The Rust's loops `while done < len { .. }`, transcribed by fuel: their equation without fuel, and sums over their turns.
 use Prim.Native.Nat.{ℕ, zero, suc, _-_, _*_, _≤_, _<_}
 use native.Mathlib.Omega.{arith}
-use mathlib.Core.Bool.{Bool, true, false}
 use mathlib.Core.Path.{_≡_, refl}
 use mathlib.Core.List.{List}
 use lib.Dec.{ltb}

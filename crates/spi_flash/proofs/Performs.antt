@@ -13,7 +13,6 @@ use Rattle.frames.specs.ShownBytes.{startShown, shownAt}
 use Rattle.frames.specs.Frame.{firstOf, actionOf, sinkOf, takenAt, takenIn, frameAt, advancedAt, advancedOf, gave, exchangeOf}
 use Rattle.frames.proofs.Sent.{shown-bytes}
 use Rattle.qspi.specs.declared.bus.Reply.{Reply}
-use Rattle.qspi.specs.declared.transfer.Body.{Body}
 use Rattle.qspi.specs.declared.transfer.Transfer.{Transfer}
 use Rattle.frames.specs.declared.frame.Stage.{Stage}
 use Rattle.frames.specs.declared.frame.Outcome.{Outcome}

@@ -5,7 +5,6 @@ use mathlib.Core.Path.{_≡_, refl}
 use mathlib.Core.List.{List, [], _∷_}
 use Rattle.qspi.specs.Shown.{shownOf}
 use Rattle.frames.specs.Frame.{firstOf, actionOf, exchangeOf}
-use Rattle.qspi.specs.declared.transfer.Body.{Body}
 use Rattle.qspi.specs.declared.transfer.Transfer.{Transfer}
 use Rattle.frames.specs.declared.frame.Stage.{Stage}
 use Rattle.frames.specs.declared.frame.Outcome.{Outcome}

@@ -8,10 +8,10 @@ use Rattle.qspi.specs.declared.command.Command.{Command}
 use Rattle.qspi.specs.declared.transfer.Body.{Body}
 use Rattle.qspi.specs.declared.transfer.Transfer.{Transfer}
 use Rattle.spi_flash.specs.declared.wait.Timings.{Timings}
-use Rattle.spi_flash.specs.Prog.{Prog, ret, fail, ask, _>>=_, _>>_, transfer}
+use Rattle.spi_flash.specs.Prog.{Prog, ret, fail, ask, _>>=_, _>>_}
 use Rattle.spi_flash.specs.Path.{Past, End, Every, asked, delays, actions, Bounded}
 use Rattle.spi_flash.specs.WaitLaw.{waiting, delayedWait, promptWait, looks, lookWeight, waitStep, OnlyPause, OnlyLook, Turn, looking, pausing, TakesTurns, WaitLaw}
-use Rattle.spi_flash.proofs.Laws.{every-mono, every-both, bounded-more, bounded-then, bounded-transfer}
+use Rattle.spi_flash.proofs.Laws.{every-mono, every-both, bounded-then, bounded-transfer}
 
 looked : (t : Transfer) (P : Type 0) → OnlyLook (waitStep t) P → (actions t ≡ 4) × (lookWeight t ≡ 1) × P
 looked Transfer.Raise P h = absurd h

@@ -6,7 +6,7 @@ use Rattle.flash.specs.Drive.{Moved}
 use Rattle.flash.specs.declared.state.Stepped.{Stepped}
 use Rattle.flash_lent.specs.Lent.{askedOver}
 use Rattle.flash_turns.specs.State.{begunIn}
-use Rattle.flash_turns.specs.Turn.{Takes, turnOf}
+use Rattle.flash_turns.specs.Turn.{TurnTaken, turnOf}
 use Rattle.trace_state.specs.State.{traceOf}
 use Rattle.trace_state.specs.declared.state.Trace.{Trace}
 
@@ -22,12 +22,12 @@ abbrev pub turnedTo : Trace → List ℕ → List ℕ → List ℕ → Text → 
 turnedTo trace scratch room reply text = record { trace = trace; scratch = scratch; room = room; reply = reply; text = text }
 
 -- the driver has answered
-abbrev pub turnedBy : Takes → Moved Stepped → Turned
+abbrev pub turnedBy : TurnTaken → Moved Stepped → Turned
 turnedBy t m =
     turnedTo (traceOf (m .stepped) (t .settings) (begunIn (t .place) (t .ask) (m .stepped .given))) (m .scratch) (m .buffer) (t .reply) (t .text)
 
 -- the driver is asked
-abbrev pub turnedThen : Stepped → List ℕ → Takes → Turned
+abbrev pub turnedThen : Stepped → List ℕ → TurnTaken → Turned
 turnedThen stepped scratch t = turnedBy t (askedOver stepped (t .ask) scratch (t .room) (t .reply))
 
 -- one turn; a trace that is over stays

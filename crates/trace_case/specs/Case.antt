@@ -3,7 +3,7 @@ use Prim.Native.Nat.{ℕ, zero, suc}
 use mathlib.Core.List.{List}
 use lib.ListN.{length, replicate}
 use Rattle.qspi.specs.Choice.{pick}
-use Rattle.lines.specs.Text.{Text, textOf}
+use Rattle.lines.specs.Text.{textOf}
 use Rattle.flash.specs.declared.state.Kind.{Kind}
 use Rattle.trace_turns.specs.Budget.{budgetOf}
 use Rattle.trace_case.specs.Advance.{Turned, turnedTo, advancedOf}

@@ -1,5 +1,4 @@
 -- Where a trace stands, with its driver.
-use Prim.Native.Nat.{ℕ}
 use mathlib.Core.Bool.{Bool}
 use Rattle.spi_flash.specs.declared.error.FlashError.{FlashError}
 use Rattle.flash.specs.Drive.{notBuilt, refusedOf}

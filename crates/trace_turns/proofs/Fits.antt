@@ -1,5 +1,5 @@
 -- The budget of turns fits a number of 64 bits.
-use Prim.Native.Nat.{ℕ, zero, _+_, _*_, _/_, _≤_, _<_}
+use Prim.Native.Nat.{ℕ, _*_, _/_, _≤_, _<_}
 use native.Mathlib.Omega.{arith}
 use native.Mathlib.Nat.{mul-le-mul, div-lt-iff-lt-mul}
 use mathlib.Core.Bool.{Bool, true, false}

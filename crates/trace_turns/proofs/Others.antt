@@ -1,8 +1,8 @@
 -- A mode that a match found not to be the last.
 use types.Run.{OneOf, miss}
 use denote.Enum.Declared.{tagOf}
-use mathlib.Core.Bool.{Bool, true, false}
-use mathlib.Core.List.{List, [], _∷_}
+use mathlib.Core.Bool.{false}
+use mathlib.Core.List.{[], _∷_}
 use mathlib.Core.Path.{_≡_, refl}
 use Rattle.trace_turns.specs.Place.{overAt}
 use Rattle.trace_turns.specs.declared.place.Mode.{Mode}

@@ -1,6 +1,6 @@
 -- A line between two calls.
 use Prim.Native.Nat.{ℕ}
-use mathlib.Core.Bool.{Bool, true, false}
+use mathlib.Core.Bool.{false}
 use Rattle.qspi.specs.Choice.{pick}
 use Rattle.case_text.specs.declared.line.Line.{Line}
 use Rattle.trace_turns.specs.Place.{placeOf, inMode, readTo}

@@ -1,8 +1,8 @@
 -- A line that a match found to be no call.
 use types.Run.{OneOf, miss}
 use denote.Enum.Declared.{tagOf}
-use mathlib.Core.Bool.{Bool, true, false}
-use mathlib.Core.List.{List, [], _∷_}
+use mathlib.Core.Bool.{false}
+use mathlib.Core.List.{[], _∷_}
 use mathlib.Core.Path.{_≡_, refl}
 use Rattle.case_text.specs.declared.line.Line.{Line}
 use Rattle.case_text.proofs.line.Line as line

@@ -1,6 +1,6 @@
 use Prim.Native.Nat.{_+_, _-_, _%_, _≤_}
 use mathlib.Core.Path.{_≡_, refl, ap₂, _∙_}
-use mathlib.Core.List.{[], _∷_, _++_, append-nil}
+use mathlib.Core.List.{_++_, append-nil}
 use native.Mathlib.Omega.{arith}
 use lib.ListN.{length, drop, set, length-set, length-drop}
 use lib.Seq.{take-all}

@@ -1,7 +1,5 @@
 use borrow.Author.Tests.{lt-ltb, le-ltb}
 use Rattle.lines.specs.Text.{digitOf}
-use native.Mathlib.Omega.{arith}
-use lib.ListN.{length-set}
 use borrow.Author.Needs.{needs}
 use Rattle.lines.proofs.text.digit.Statement.{statement}
 use Rattle.lines.proofs.text.digit.Tie as tie

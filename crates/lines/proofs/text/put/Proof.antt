@@ -1,7 +1,5 @@
 use borrow.Author.Tests.{lt-ltb, le-ltb}
 use Rattle.lines.specs.Text.{putOf}
-use native.Mathlib.Omega.{arith}
-use lib.ListN.{length-set}
 use borrow.Author.Needs.{needs}
 use Rattle.lines.proofs.text.put.Statement.{statement}
 use Rattle.lines.proofs.text.put.Tie as tie

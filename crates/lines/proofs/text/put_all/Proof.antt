@@ -1,13 +1,12 @@
 use Prim.Native.Nat.{_-_}
-use mathlib.Core.Path.{_≡_, refl, sym, _∙_}
+use mathlib.Core.Path.{_≡_, refl}
 use native.Mathlib.Omega.{arith}
 use native.Mathlib.Numerals.{add-one}
 use lib.ListN.{length, drop, drop-of-length-le}
 use lib.Seq.{drop-cons}
 use borrow.Author.Needs.{needs}
 use denote.Ref.{now}
-use Rattle.lines.specs.Text.{appended, textOf, putOf}
-use Rattle.lines.proofs.Appending.{appended-behind}
+use Rattle.lines.specs.Text.{appended, textOf}
 use Rattle.lines.proofs.text.put_all.Statement.{statement}
 use Rattle.lines.proofs.text.put_all.Tie as tie
 

@@ -1,4 +1,3 @@
-use Rattle.qspi.proofs.Tests.{tests}
 use Rattle.spi_flash.specs.Beginning.{told}
 use borrow.Author.Needs.{needs}
 use Rattle.nor_driver.proofs.call.told.Statement.{statement}

@@ -1,6 +1,5 @@
 use native.Mathlib.Nat.{mod-zero}
 use mathlib.Core.Path.{refl}
-use Rattle.qspi.proofs.Tests.{tests}
 use Rattle.nor_phases.specs.Transfer.{multipleOf}
 use borrow.Author.Needs.{needs}
 use Rattle.nor_phases.proofs.transfer.multiple_of.Statement.{statement}

@@ -1,4 +1,3 @@
-use mathlib.Core.Path.{refl}
 use Rattle.nor_phases.specs.Transfer.{placeOf}
 use borrow.Author.Needs.{needs}
 use Rattle.nor_phases.proofs.transfer.place.Statement.{statement}

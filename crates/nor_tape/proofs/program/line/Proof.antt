@@ -1,13 +1,13 @@
 use Prim.Native.Nat.{ℕ}
 use mathlib.Core.List.{List, [], _∷_}
-use mathlib.Core.Path.{_≡_, refl}
+use mathlib.Core.Path.{_≡_}
 use types.Run.{OneOf, miss}
 use denote.Enum.Declared.{tagOf}
 use borrow.Author.Needs.{needs}
 use Rattle.nor_tape.proofs.program.line.Statement.{statement}
 use Rattle.nor_tape.proofs.program.line.Tie as tie
 use Rattle.lines.specs.Line.{endLine}
-use Rattle.lines.specs.Text.{Text, textOf, appended}
+use Rattle.lines.specs.Text.{Text, appended}
 use Rattle.nor_driver.specs.Answer.{endingNumber}
 use Rattle.nor_driver.specs.declared.state.Given.{Given}
 use Rattle.nor_driver.proofs.state.Given as G

@@ -4,8 +4,6 @@ use mathlib.Core.Path.{ap}
 use Prim.Native.Nat.{ℕ}
 use lib.ListN.{take, drop}
 use denote.Ref.{now}
-use native.Mathlib.Omega.{arith}
-use lib.ListN.{length-set}
 use borrow.Author.Needs.{needs}
 use Rattle.qspi.proofs.bytes.part.Statement.{statement}
 use Rattle.qspi.proofs.bytes.part.Tie as tie

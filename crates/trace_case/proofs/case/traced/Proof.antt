@@ -1,9 +1,7 @@
 use Prim.Native.Nat.{_-_}
 use mathlib.Core.Path.{_≡_, ap, sym, _∙_}
-use native.Mathlib.Omega.{arith}
 use native.Mathlib.Nat.{sub-zero}
 use lib.ListN.{length}
-use denote.Ref.{now}
 use borrow.Author.Needs.{needs}
 use Rattle.lines.specs.Text.{textOf}
 use Rattle.trace_case.specs.Advance.{Turned, turnedTo}

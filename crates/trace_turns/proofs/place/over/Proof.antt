@@ -1,5 +1,4 @@
 use Rattle.trace_turns.proofs.Others.{not-over}
-use mathlib.Core.Path.{refl}
 use Rattle.trace_turns.specs.Place.{overOf}
 use borrow.Author.Needs.{needs}
 use Rattle.trace_turns.proofs.place.over.Statement.{statement}
