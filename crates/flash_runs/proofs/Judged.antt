@@ -14,13 +14,15 @@ use Rattle.qspi.specs.declared.bus.Action.{Action}
 use Rattle.qspi.specs.declared.bus.Reply.{Reply}
 use Rattle.frames.specs.Frame.{firstOf, actionOf, exchangeOf, advancedOf, takenIn, gave}
 use Rattle.frames.specs.declared.frame.Advanced.{Advanced}
+use Rattle.spi_flash.specs.Entry.{entryOf}
 use Rattle.spi_flash.specs.Beginning as Beginning
 use Rattle.spi_flash.specs.Replying as Replying
 use Rattle.spi_flash.specs.Settling as Settling
-use Rattle.spi_flash.specs.Loan.{Lent, readyFor}
+use Rattle.spi_flash.specs.Loan.{Lent, readyFor, exchangeFor}
 use Rattle.spi_flash.specs.Run as Run
 use Rattle.spi_flash.specs.Run.{Event, reply, call, System, goesOn, runOf, begunWith, stateAfter}
 use Rattle.spi_flash.specs.Machine.{lentAs}
+use Rattle.spi_flash.specs.declared.entry.Entry.{Entry}
 use Rattle.spi_flash.specs.declared.error.FlashError.{FlashError}
 use Rattle.spi_flash.specs.declared.loan.Takes.{Takes}
 use Rattle.qspi.proofs.Cases.{by-cases}
@@ -98,7 +100,7 @@ module _ {S P A C : Type 0} (parts : Parts S P A C) (inBounds : S → Bool) (tak
     Judges running before = (r : Reply) (bytes : List ℕ) (l : Lent) → refusalIn (system .answer (at running) r bytes l .given) ≡ replyRefusal before takes l r (length bytes)
 
     busy-judged : (job : Job P) (shown : Shown) → Awaiting (busy job) (some shown) → Judges (busy job) (some shown)
-    unfolding Replying.proceeds exchangeOf fitsOf
+    unfolding exchangeFor exchangeOf fitsOf
     busy-judged job shown h r bytes l =
         rw (sym (h .0), h .1)
         (by-cases (readyFor (job .takes) l)
@@ -147,6 +149,10 @@ module _ {S P A C : Type 0} (parts : Parts S P A C) (inBounds : S → Bool) (tak
     picked true x y h k = h
     picked false x y h k = k
 
+    entered-awaiting : (entry : Entry) (x : Stepped S P A) → AwaitingBy none (leftWith plain x l) → AwaitingBy none (leftWith plain (Beginning.entered plain (at setup built delivered idle) entry x) l)
+    entered-awaiting Entry.Open x h = h
+    entered-awaiting (Entry.Shut error) x h = tt
+
     opened-awaiting : (own : Takes) (x : Then S P A) → own ≡ takes → AwaitingBy none (opened (at setup built delivered idle) own x l)
     unfolding Beginning.opened
     opened-awaiting own (General.go s t phase) e = settled-awaiting _ own (General.go s t phase) l none e
@@ -156,11 +162,11 @@ module _ {S P A C : Type 0} (parts : Parts S P A C) (inBounds : S → Bool) (tak
     begin-awaiting : (x : Opening S P A) → takesIn x ≡ takes → AwaitingBy none (openedAs parts inBounds (at setup built delivered idle) x l)
     unfolding Beginning.atRest Beginning.constructed Beginning.told Beginning.freed Beginning.begun
     begin-awaiting (constructing fresh) e =
-        picked (ltb (length (l .scratch)) scratchLeast) _ _ tt (picked (inBounds fresh) _ _ (settled-awaiting _ Takes.Nothing _ l none e) tt)
+        entered-awaiting (entryOf true (length (l .scratch)) (inBounds fresh)) _ (settled-awaiting _ Takes.Nothing _ l none e)
     begin-awaiting (telling answer) e = picked built _ _ tt tt
     begin-awaiting releasing e = picked built _ _ tt tt
     begin-awaiting (working own then) e =
-        picked built _ _ (picked (ltb (length (l .scratch)) scratchLeast) _ _ tt (picked (inBounds setup) _ _ (opened-awaiting own then e) tt)) tt
+        entered-awaiting (entryOf built (length (l .scratch)) (inBounds setup)) _ (opened-awaiting own then e)
 
   -- ---- a whole call
 
@@ -216,11 +222,16 @@ module _ {F C S A : Type 0} {driver : Driver F C S A} (known : Known driver) whe
     abbrev refusedWith : FlashError → Stepped S P A
     refusedWith error = plain .refused there error
 
-    picked-host : (short inside : Bool) (x : Stepped S P A) → RefusedAs (pick short (some FlashError.Misfit) (pick inside none (some FlashError.InvalidGeometry)))
-        (leftWith plain (pick short (refusedWith FlashError.Misfit) (pick inside x (refusedWith FlashError.InvalidGeometry))) l .given)
-    picked-host true inside x = refl
-    picked-host false true x = tt
-    picked-host false false x = refl
+    judged-entry : (b short inside : Bool) (x : Stepped S P A) →
+        RefusedAs (pick b (pick short (some FlashError.Misfit) (pick inside none (some FlashError.InvalidGeometry))) (some FlashError.OutOfTurn))
+        (leftWith plain
+          (Beginning.entered plain there
+            (pick b (pick short (Entry.Shut FlashError.Misfit) (pick inside Entry.Open (Entry.Shut FlashError.InvalidGeometry))) (Entry.Shut FlashError.OutOfTurn)) x)
+          l .given)
+    judged-entry true true inside x = refl
+    judged-entry true false true x = tt
+    judged-entry true false false x = refl
+    judged-entry false short inside x = refl
 
     picked-built : (b : Bool) (why : Option FlashError) (x : Stepped S P A) → RefusedAs why (leftWith plain x l .given) →
         RefusedAs (pick b why (some FlashError.OutOfTurn)) (leftWith plain (pick b x (refusedWith FlashError.OutOfTurn)) l .given)
@@ -228,12 +239,11 @@ module _ {F C S A : Type 0} {driver : Driver F C S A} (known : Known driver) whe
     picked-built false why x h = refl
 
     rest-refuses : (x : Opening S P A) → Knows setup c l x → Refuses x (sortAt driver c l)
-    unfolding Beginning.atRest Beginning.constructed Beginning.told Beginning.freed Beginning.begun
-    rest-refuses (constructing fresh) k = rw (k .sorted) (picked-host (ltb (length (l .scratch)) scratchLeast) (driver .inBounds fresh) _)
+    unfolding Beginning.atRest Beginning.constructed Beginning.told Beginning.freed Beginning.begun entryOf
+    rest-refuses (constructing fresh) k = rw (k .sorted) (judged-entry true (ltb (length (l .scratch)) scratchLeast) (driver .inBounds fresh) _)
     rest-refuses (telling answer) k = rw (k .sorted) (picked-built built none _ tt)
     rest-refuses releasing k = rw (k .sorted) (picked-built built none _ tt)
-    rest-refuses (working own then) k =
-        rw (k .sorted) (picked-built built _ _ (picked-host (ltb (length (l .scratch)) scratchLeast) (driver .inBounds setup) _))
+    rest-refuses (working own then) k = rw (k .sorted) (judged-entry built (ltb (length (l .scratch)) scratchLeast) (driver .inBounds setup) _)
 
     abbrev opens : Opening S P A
     opens = parts .opening setup c (length (l .buffer)) (length (l .given))

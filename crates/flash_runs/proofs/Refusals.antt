@@ -10,10 +10,12 @@ use Rattle.qspi.specs.Choice.{pick}
 use Rattle.qspi.specs.Command.{scratchLeast}
 use Rattle.qspi.specs.Shown.{Shown}
 use Rattle.qspi.specs.declared.bus.Reply.{Reply}
+use Rattle.spi_flash.specs.Entry.{entryOf}
 use Rattle.spi_flash.specs.Beginning as Beginning
 use Rattle.spi_flash.specs.Settling as Settling
 use Rattle.spi_flash.specs.Loan.{Lent}
 use Rattle.spi_flash.specs.Run as Run
+use Rattle.spi_flash.specs.declared.entry.Entry.{Entry}
 use Rattle.spi_flash.specs.declared.error.FlashError.{FlashError}
 use Rattle.spi_flash.specs.declared.loan.Takes.{Takes}
 use Rattle.flash_runs.specs.Driver.{Left, Driver}
@@ -82,19 +84,18 @@ module _ {S P A : Type 0} where
       unfolding Keeps Beginning.freed
       freed-kept flash l = kept-pick flash l (flash .built) _ _ (λ e h. absurd (ends-not _ e h)) (λ e h. (refl, refl))
 
+      entered-kept : (flash : Flash S P) (l : Lent) (entry : Entry) (x : Stepped S P A) → Keeps flash l (leftWith plain x l) → Keeps flash l (leftWith plain (Beginning.entered plain flash entry x) l)
+      unfolding Keeps
+      entered-kept flash l Entry.Open x h = h
+      entered-kept flash l (Entry.Shut error) x h = λ e k. (refl, refl)
+
       begun-kept : (flash : Flash S P) (takes : Takes) (x : Then S P A) (l : Lent) → Keeps flash l (begun parts inBounds flash takes x l)
-      unfolding Keeps Beginning.begun
-      begun-kept flash takes x l =
-          kept-pick flash l (flash .built) _ _
-          (kept-pick flash l (ltb (length (l .scratch)) scratchLeast) _ _ (λ e h. (refl, refl))
-          (kept-pick flash l (inBounds (flash .setup)) _ _ (opened-kept flash takes x l) (λ e h. (refl, refl))))
-          (λ e h. (refl, refl))
+      unfolding Beginning.begun
+      begun-kept flash takes x l = entered-kept flash l (entryOf (flash .built) (length (l .scratch)) (inBounds (flash .setup))) _ (opened-kept flash takes x l)
 
       constructed-kept : (flash : Flash S P) (fresh : S) (l : Lent) → Keeps flash l (constructed parts inBounds flash fresh l)
-      unfolding Keeps Beginning.constructed
-      constructed-kept flash fresh l =
-          kept-pick flash l (ltb (length (l .scratch)) scratchLeast) _ _ (λ e h. (refl, refl))
-          (kept-pick flash l (inBounds fresh) _ _ (settled-kept _ flash Takes.Nothing _ l l) (λ e h. (refl, refl)))
+      unfolding Beginning.constructed
+      constructed-kept flash fresh l = entered-kept flash l (entryOf true (length (l .scratch)) (inBounds fresh)) _ (settled-kept _ flash Takes.Nothing _ l l)
 
       opening-kept : (flash : Flash S P) (x : Opening S P A) (l : Lent) → Keeps flash l (openedAs parts inBounds flash x l)
       unfolding Beginning.atRest

@@ -11,7 +11,7 @@ use Rattle.qspi.specs.declared.bus.Reply.{Reply}
 use Rattle.frames.specs.declared.frame.Advanced.{Advanced}
 use Rattle.spi_flash.specs.Replying as Replying
 use Rattle.spi_flash.specs.Settling as Settling
-use Rattle.spi_flash.specs.Loan.{Lent, readyFor}
+use Rattle.spi_flash.specs.Loan.{Lent, readyFor, exchangeFor}
 use Rattle.spi_flash.specs.Run.{Event, reply, call, Given, act, ended, failed, refused, Moved, System, entry, atOnce, goesOn, begunWith, runOf, callOf, stateAfter}
 use Rattle.spi_flash.specs.Machine.{Config, out, rest, lentAs, settle, moved, answered, machine}
 use Rattle.spi_flash.specs.declared.loan.Takes.{Takes}
@@ -100,7 +100,7 @@ module _ {S P A C : Type 0} (parts : Parts S P A C) (inBounds : S → Bool) wher
 
   module _ (flash : Flash S P) (job : Job P) (is : flash .running ≡ busy job) (r : Reply) (bytes : List ℕ) (l : Lent) where
     steps : Alike configOf (proceeds parts flash job r bytes l) (answered (decideNext parts) (out (job .takes) (place (flash .setup) (job .phase)) (job .frame)) r bytes l)
-    unfolding Replying.proceeds exchangeOf
+    unfolding exchangeFor exchangeOf
     steps =
         by-cases (readyFor (job .takes) l)
         (λ ready. by-cases (fitsOf (actionOf (job .frame)) r (length bytes))

@@ -3,20 +3,20 @@ use Prim.Native.Nat.{ℕ}
 use mathlib.Core.Bool.{Bool, true, false}
 use mathlib.Core.Path.{_≡_, refl, ap, ap₂, _∙_, subst}
 use mathlib.Core.List.{List}
-use lib.Dec.{ltb}
 use lib.ListN.{length}
 use Rattle.qspi.specs.Choice.{pick}
-use Rattle.qspi.specs.Command.{scratchLeast}
 use Rattle.qspi.specs.declared.bus.Reply.{Reply}
 use Rattle.frames.specs.Frame.{exchangeOf, deliveredBy}
 use Rattle.frames.specs.declared.frame.Exchanged.{Exchanged}
 use Rattle.frames.specs.declared.frame.Outcome.{Outcome}
-use Rattle.spi_flash.specs.Beginning.{Calls, told, opened, freed, constructed, begun, atRest, beginAt, begins}
-use Rattle.spi_flash.specs.Loan.{Lent, readyFor}
+use Rattle.spi_flash.specs.Entry.{entryOf}
+use Rattle.spi_flash.specs.Beginning.{Calls, told, entered, opened, freed, constructed, begun, atRest, beginAt, begins}
+use Rattle.spi_flash.specs.Loan.{Lent, readyFor, exchangeFor}
 use Rattle.spi_flash.specs.Machine.{lentAs}
-use Rattle.spi_flash.specs.Replying.{exchanged, proceeds, stepAt, steps}
+use Rattle.spi_flash.specs.Replying.{exchanged, stepAt, steps}
 use Rattle.spi_flash.specs.Settling.{settled}
 use Rattle.spi_flash.specs.Shape.{Given, Shape}
+use Rattle.spi_flash.specs.declared.entry.Entry.{Entry}
 use Rattle.spi_flash.specs.declared.error.FlashError.{FlashError}
 use Rattle.spi_flash.specs.declared.loan.Takes.{Takes}
 use Rattle.qspi.proofs.Cases.{by-cases}
@@ -68,12 +68,14 @@ module _ {F S P A G C : Type 0} (shape : Shape F S P A G) (faithful : Faithful s
 
   -- ---- a call
 
+  enters : (flash : F) (entry : Entry) (x : G) (y : Stepped S P A) → Same shape x y → Same shape (entered shape flash entry x) (entered plain (view flash) entry y)
+  enters flash Entry.Open x y h = h
+  enters flash (Entry.Shut error) x y h = refuses-same flash error
+
   module _ (flash : F) (s : ℕ) where
     constructs : (fresh : S) → Same shape (constructed shape calls flash fresh s) (constructed plain calls (view flash) fresh s)
     unfolding constructed
-    constructs fresh =
-        either shape (ltb s scratchLeast) _ _ _ _ (refuses-same flash FlashError.Misfit)
-        (either shape (calls .inBounds fresh) _ _ _ _ (settles-from fresh false Takes.Nothing _) (refuses-same flash FlashError.InvalidGeometry))
+    constructs fresh = enters flash (entryOf true s (calls .inBounds fresh)) _ _ (settles-from fresh false Takes.Nothing _)
 
     tells : (answer : A) → Same shape (told shape flash answer) (told plain (view flash) answer)
     unfolding told
@@ -91,11 +93,7 @@ module _ {F S P A G C : Type 0} (shape : Shape F S P A G) (faithful : Faithful s
 
     works : (takes : Takes) (x : Then S P A) → Same shape (begun shape calls flash s takes x) (begun plain calls (view flash) s takes x)
     unfolding begun
-    works takes x =
-        either shape (shape .built flash) _ _ _ _
-        (either shape (ltb s scratchLeast) _ _ _ _ (refuses-same flash FlashError.Misfit)
-        (either shape (calls .inBounds (shape .setup flash)) _ _ _ _ (opens takes x) (refuses-same flash FlashError.InvalidGeometry)))
-        (refuses-same flash FlashError.OutOfTurn)
+    works takes x = enters flash (entryOf (shape .built flash) s (calls .inBounds (shape .setup flash))) _ _ (opens takes x)
 
     starts : (x : Opening S P A) → Same shape (atRest shape calls flash x s) (atRest plain calls (view flash) x s)
     unfolding atRest
@@ -118,7 +116,7 @@ module _ {F S P A G C : Type 0} (shape : Shape F S P A G) (faithful : Faithful s
   pub answers-at : (running : Running P) (flash : F) (r : Reply) (bytes : List ℕ) (l : Lent) →
       Alike view (movedAs shape (stepAt shape next running flash r bytes (l .scratch) (l .buffer) (l .given)) l)
       (General.answerAt (partsOf calls next) running (view flash) r bytes l)
-  unfolding proceeds
+  unfolding exchangeFor
   answers-at idle flash r bytes l = alike shape (refuses-same flash FlashError.OutOfTurn) l
   answers-at (busy job) flash r bytes l =
       let x = exchangeOf (job .frame) r bytes (l .scratch) (l .buffer) (l .given) in

@@ -12,7 +12,7 @@ use Rattle.frames.specs.declared.frame.Exchanged.{Exchanged}
 use Rattle.frames.specs.declared.frame.Frame.{Frame}
 use Rattle.frames.specs.declared.frame.Outcome.{Outcome}
 use Rattle.spi_flash.specs.Replying as Replying
-use Rattle.spi_flash.specs.Loan.{Lent, readyFor}
+use Rattle.spi_flash.specs.Loan.{Lent, readyFor, exchangeFor}
 use Rattle.spi_flash.specs.Machine.{lentAs, refusing}
 use Rattle.spi_flash.specs.declared.error.FlashError.{FlashError}
 use Rattle.qspi.proofs.Cases.{by-cases}
@@ -32,7 +32,7 @@ module _ {S P A C : Type 0} (parts : Parts S P A C) (flash : Flash S P) (job : J
       (over : (o : Outcome) → readyFor (job .takes) l ≡ true → fitsOf (actionOf (job .frame)) r (length bytes) ≡ true → advancedOf (job .frame) r bytes (l .given) ≡ Advanced.Over o →
       Q (settled flash (job .takes) (parts .next (flash .setup) (job .phase) o) (left (l .scratch)))) where
     pub step-view : Q (proceeds parts flash job r bytes l)
-    unfolding Replying.proceeds exchangeOf
+    unfolding exchangeFor exchangeOf
     step-view =
         by-cases (readyFor (job .takes) l)
         (λ ready. by-cases (fitsOf (actionOf (job .frame)) r (length bytes))

@@ -11,6 +11,7 @@ use borrow.Author.Tests.{le-ltb}
 use Rattle.frames.specs.Frame.{firstOf}
 use Rattle.qspi.specs.Command.{scratchLeast}
 use Rattle.qspi.specs.declared.transfer.Transfer.{Transfer}
+use Rattle.spi_flash.specs.Entry.{entryOf}
 use Rattle.spi_flash.specs.Beginning as Beginning
 use Rattle.spi_flash.specs.Settling as Settling
 use Rattle.spi_flash.specs.Loan.{Lent}
@@ -121,7 +122,7 @@ module _ {F C S A : Type 0} {driver : Driver F C S A} (known : Known driver) whe
         (is : driven .begin flash c l ≡ begun parts (driver .inBounds) flash takes then l)
         (there : built ≡ true) (lent : ltb (length (l .scratch)) scratchLeast ≡ false) (inside : driver .inBounds setup ≡ true) where
       opens : driven .begin flash c l ≡ opened flash takes then l
-      unfolding Beginning.begun
+      unfolding Beginning.begun entryOf
       opens = is ∙ rw (there, lent, inside) refl
 
       opened-as : (x : Then S P A) → then ≡ x → Result
@@ -152,7 +153,7 @@ module _ {F C S A : Type 0} {driver : Driver F C S A} (known : Known driver) whe
 
     makes : (fresh : S) → Construction driver parts Valid Built meaning setup c buffer given fresh → driven .begin flash c l ≡ constructed parts (driver .inBounds) flash fresh l →
         ltb (length (l .scratch)) scratchLeast ≡ false → driver .inBounds fresh ≡ true → Opens flash c l
-    unfolding Beginning.constructed
+    unfolding Beginning.constructed entryOf
     makes fresh k is lent inside = record {
       first = Transfer.Raise;
       at = place fresh (parts .raised);
@@ -202,7 +203,7 @@ module _ {F C S A : Type 0} {driver : Driver F C S A} (known : Known driver) whe
     refused-view e is = inl (quiet (Run.refused e) is (λ h. h))
 
     opening-view : (x : Opening S P A) → driven .begin flash c l ≡ openedAs parts (driver .inBounds) flash x l → Knows x → View
-    unfolding Beginning.atRest Beginning.begun Beginning.constructed Beginning.told Beginning.freed
+    unfolding Beginning.atRest Beginning.begun Beginning.constructed Beginning.told Beginning.freed entryOf
     opening-view (working takes then) is u =
         by-cases built
         (λ there. by-cases (ltb (length (l .scratch)) scratchLeast)

@@ -12,8 +12,9 @@ use nand_phases::phase::Phase;
 use nand_phases::setup::Setup;
 use nand_steps::go;
 use nand_steps::then::Then;
-use qspi::command::SCRATCH_LEN;
 use qspi::transfer::Transfer;
+use spi_flash::entry;
+use spi_flash::entry::Entry;
 use spi_flash::error::FlashError;
 use spi_flash::loan::Takes;
 use spi_nand::config::GeometrySetting;
@@ -71,13 +72,10 @@ fn raise(config: SpiNandConfig) -> Stepped
 fn construct(flash: SpiNandFlash, config: SpiNandConfig, scratch_len: usize) -> Stepped
     ensures { λ r. ⌜ r ≡ constructedOf flash config «scratch_len» ⌝ }
 {
-    if scratch_len < SCRATCH_LEN {
-        return settle::refused(flash, FlashError::Misfit);
+    match entry::may_begin(true, scratch_len, given_geometry(config).in_bounds()) {
+        Entry::Open => return raise(config),
+        Entry::Shut(error) => return settle::refused(flash, error),
     }
-    if given_geometry(config).in_bounds() {
-        return raise(config);
-    }
-    settle::refused(flash, FlashError::InvalidGeometry)
 }
 
 // ---- accessors
@@ -115,34 +113,26 @@ fn opened(flash: SpiNandFlash, takes: Takes, then: Then) -> Stepped
     ensures { λ r. ⌜ r ≡ openedOf flash takes then ⌝ }
 {
     let setup = flash.setup;
-    match then {
-        Then::Fail(error) => return settle::refused(flash, error),
-        _ => {
-            return settle::settle(
-                settle::flash_of(setup, flash.built, 0, Running::Idle),
-                takes,
-                then,
-            );
-        }
-    }
+    let Then::Fail(error) = then else {
+        return settle::settle(
+            settle::flash_of(setup, flash.built, 0, Running::Idle),
+            takes,
+            then,
+        );
+    };
+    settle::refused(flash, error)
 }
 
-// 13, 14, 12, and then the Rust's own refusals.
+// The Rust's own refusals come last.
 fn begun(flash: SpiNandFlash, scratch_len: usize, takes: Takes, then: Then) -> Stepped
     ensures { λ r. ⌜ r ≡ begunOf flash «scratch_len» takes then ⌝ }
 {
     let setup = flash.setup;
     let geometry = setup.geometry;
-    if flash.built {
-        if scratch_len < SCRATCH_LEN {
-            return settle::refused(flash, FlashError::Misfit);
-        }
-        if geometry.in_bounds() {
-            return opened(flash, takes, then);
-        }
-        return settle::refused(flash, FlashError::InvalidGeometry);
+    match entry::may_begin(flash.built, scratch_len, geometry.in_bounds()) {
+        Entry::Open => return opened(flash, takes, then),
+        Entry::Shut(error) => return settle::refused(flash, error),
     }
-    settle::refused(flash, FlashError::OutOfTurn)
 }
 
 // ---- every call

@@ -22,10 +22,10 @@ use Rattle.nand_phases.specs.declared.phase.RegisterFor.{RegisterFor}
 use Rattle.nand_phases.specs.declared.phase.ResetFor.{ResetFor}
 use Rattle.nand_phases.specs.declared.phase.Task.{Task}
 use Rattle.nand_phases.specs.declared.setup.Setup.{Setup}
-use Rattle.nand_pages.specs.Block.{erasedThen, markerThen, fillFrom, filledThen, markThen}
+use Rattle.nand_pages.specs.Block.{markerThen, fillFrom, filledThen, markThen}
 use Rattle.nand_pages.specs.Cache.{comparedThen, loadProgramThen}
 use Rattle.nand_steps.specs.Go.{endWith, done, look, send, reset}
-use Rattle.nand_pages.specs.Page.{judgedThen, programThen, programmedThen}
+use Rattle.nand_pages.specs.Page.{programThen}
 use Rattle.nand_pages.specs.Read.{pieceReadThen}
 use Rattle.nand_steps.specs.Register.{idOf, identifiedThen, configureThen, checkConfiguration, unprotectThen, broughtUp, disableQuad, quadDisabled}
 use Rattle.nand_steps.specs.declared.then.Then.{Then}
@@ -85,9 +85,6 @@ answeredThen setup (Asked.Unprotect bringUp) v = unprotectThen setup (protection
 answeredThen setup Asked.BroughtUp v = broughtUp setup (configurationOf (byteOf v))
 answeredThen setup Asked.DisableQuad v = disableQuad setup (configurationOf (byteOf v))
 answeredThen setup Asked.QuadDisabled v = quadDisabled setup (configurationOf (byteOf v))
-answeredThen setup (Asked.Verdict why) v = judgedThen setup why (statusOf (byteOf v))
-answeredThen setup (Asked.Programmed why) v = programmedThen setup why (statusOf (byteOf v))
-answeredThen setup (Asked.Erased why) v = erasedThen setup why (statusOf (byteOf v))
 
 -- ---- what follows a transfer that gave v
 

@@ -163,9 +163,6 @@ fn answered(setup: Setup, asked: Asked, v: u64) -> Then
         Asked::BroughtUp => return register::brought_up(setup, Configuration::from_byte(b)),
         Asked::DisableQuad => return register::disable_quad(setup, Configuration::from_byte(b)),
         Asked::QuadDisabled => return register::quad_disabled(setup, Configuration::from_byte(b)),
-        Asked::Verdict(why) => return page::judged(setup, why, Status::from_byte(b)),
-        Asked::Programmed(why) => return page::programmed(setup, why, Status::from_byte(b)),
-        Asked::Erased(why) => return block::erased(setup, why, Status::from_byte(b)),
     }
 }
 

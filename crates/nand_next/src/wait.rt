@@ -1,6 +1,6 @@
 // wait_ready: the pauses and looks behind a command, and what they are for.
+use nand_pages::block;
 use nand_pages::page;
-use nand_phases::phase::Asked;
 use nand_phases::phase::Phase;
 use nand_phases::phase::ResetFor;
 use nand_phases::phase::Task;
@@ -17,7 +17,7 @@ use spi_flash::wait::Wait;
 use spi_nand::opcode;
 use spi_nand::status::Status;
 ghost use mathlib.Core.Path.{_≡_};
-ghost use Rattle.nand_next.specs.Wait.{resetThen, resumeTask, lookThen, pauseThen, waitThen, sentThen, lookedThen, waitingThen};
+ghost use Rattle.nand_next.specs.Wait.{resetThen, resumeTask, judgeTask, lookThen, pauseThen, waitThen, sentThen, lookedThen, waitingThen};
 
 fn reset_done(setup: Setup, why: ResetFor) -> Then
     ensures { λ r. ⌜ r ≡ resetThen setup why ⌝ }
@@ -36,10 +36,21 @@ fn resume(setup: Setup, task: Task) -> Then
         Task::Reset(why) => return reset_done(setup, why),
         Task::Register(why) => return register::written(setup, why),
         Task::Load(why) => return page::loaded(setup, why),
-        Task::Program(why) => {
-            return go::ask(setup, opcode::REG_STATUS, Asked::Programmed(why));
-        }
-        Task::Erase(why) => return go::ask(setup, opcode::REG_STATUS, Asked::Erased(why)),
+        Task::Program(why) => return go::verdict(setup, Task::Program(why)),
+        Task::Erase(why) => return go::verdict(setup, Task::Erase(why)),
+    }
+}
+
+// How a task went. A reset and a write to a register are not judged.
+fn judged(setup: Setup, task: Task, status: Status) -> Then
+    ensures { λ r. ⌜ r ≡ judgeTask setup task status ⌝ }
+{
+    match task {
+        Task::Reset(why) => return reset_done(setup, why),
+        Task::Register(why) => return register::written(setup, why),
+        Task::Load(why) => return page::judged(setup, why, status),
+        Task::Program(why) => return page::programmed(setup, why, status),
+        Task::Erase(why) => return block::erased(setup, why, status),
     }
 }
 
@@ -107,7 +118,7 @@ fn looked(setup: Setup, task: Task, waited: u32, status: Status) -> Then
     )
 }
 
-// What follows each step of a task. A status is looked at only behind a look.
+// What follows each step of a task. A status is looked at only behind a look and at the end.
 pub fn waiting(setup: Setup, task: Task, at: WaitStep, waited: u32, status: Status) -> Then
     ensures { λ r. ⌜ r ≡ waitingThen setup task at waited status ⌝ }
 {
@@ -115,5 +126,6 @@ pub fn waiting(setup: Setup, task: Task, at: WaitStep, waited: u32, status: Stat
         WaitStep::Command => return sent(setup, task),
         WaitStep::Look => return looked(setup, task, waited, status),
         WaitStep::Pause => return look(setup, task, waited),
+        WaitStep::Verdict => return judged(setup, task, status),
     }
 }

@@ -7,12 +7,10 @@ use Rattle.qspi.specs.declared.transfer.Sink.{Sink}
 use Rattle.spi_flash.specs.declared.error.FlashError.{FlashError}
 use Rattle.spi_nand.specs.Command.{pageReadCommand, programExecuteCommand}
 use Rattle.spi_nand.specs.Config.{pageCountOf, firstPageOf}
-use Rattle.spi_nand.specs.Opcode.{REG-STATUS}
 use Rattle.spi_nand.specs.Status.{programFailedOf, verdictOf}
 use Rattle.spi_nand.specs.declared.status.EccVerdict.{EccVerdict}
 use Rattle.spi_nand.specs.declared.status.Status.{Status}
 use Rattle.nand_phases.specs.Verdict.{asksVerdict}
-use Rattle.nand_phases.specs.declared.phase.Asked.{Asked}
 use Rattle.nand_phases.specs.declared.phase.EnableFor.{EnableFor}
 use Rattle.nand_phases.specs.declared.phase.LoadFor.{LoadFor}
 use Rattle.nand_phases.specs.declared.phase.MarkerFor.{MarkerFor}
@@ -21,7 +19,7 @@ use Rattle.nand_phases.specs.declared.phase.ProgramFor.{ProgramFor}
 use Rattle.nand_phases.specs.declared.phase.Task.{Task}
 use Rattle.nand_phases.specs.declared.setup.Setup.{Setup}
 use Rattle.nand_pages.specs.Cache.{within, wholeThen, readMarkerThen, pieceThen}
-use Rattle.nand_steps.specs.Go.{done, ask, send, enable}
+use Rattle.nand_steps.specs.Go.{done, verdict, send, enable}
 use Rattle.nand_steps.specs.declared.then.Then.{Then}
 
 -- ---- loads
@@ -49,7 +47,7 @@ acceptedThen setup (LoadFor.Read offset n before) = pieceThen setup offset n bef
 
 -- "A load's verdict is that of the status read after its wait has ended"
 unfoldable pub loadedThen : Setup → LoadFor → Then
-loadedThen setup why = pick (asksVerdict why) (ask setup REG-STATUS (Asked.Verdict why)) (acceptedThen setup why)
+loadedThen setup why = pick (asksVerdict why) (verdict setup (Task.Load why)) (acceptedThen setup why)
 
 -- "`page_read` refuses only 2"
 abbrev pub uncorrectable : EccVerdict → Bool

@@ -1,6 +1,5 @@
 // Pages: loads, programs, and the two together.
 use crate::cache;
-use nand_phases::phase::Asked;
 use nand_phases::phase::EnableFor;
 use nand_phases::phase::LoadFor;
 use nand_phases::phase::MarkerFor;
@@ -11,7 +10,6 @@ use nand_steps::go;
 use nand_steps::then::Then;
 use spi_flash::error::FlashError;
 use spi_nand::command;
-use spi_nand::opcode;
 use spi_nand::status::EccVerdict;
 use spi_nand::status::Status;
 ghost use mathlib.Core.Path.{_≡_};
@@ -53,7 +51,7 @@ pub fn loaded(setup: Setup, why: LoadFor) -> Then
     ensures { λ r. ⌜ r ≡ loadedThen setup why ⌝ }
 {
     if why.asks_verdict() {
-        return go::ask(setup, opcode::REG_STATUS, Asked::Verdict(why));
+        return go::verdict(setup, Task::Load(why));
     }
     accepted(setup, why)
 }

@@ -113,11 +113,12 @@ pub enum Task {
     Erase(EraseFor),
 }
 
-// Where a task stands: its command is out, a look at the status, or a delay between two looks.
+// Where a task stands: its command is out, a look at the status, a delay between two looks, or the status that tells how it went.
 pub enum WaitStep {
     Command,
     Look,
     Pause,
+    Verdict,
 }
 
 // What a register or the id is read for.
@@ -146,10 +147,6 @@ pub enum Asked {
     // disable_quad, likewise
     DisableQuad,
     QuadDisabled,
-    // how a load, a program or an erase went
-    Verdict(LoadFor),
-    Programmed(ProgramFor),
-    Erased(EraseFor),
 }
 
 pub enum Phase {
@@ -161,7 +158,7 @@ pub enum Phase {
         why: EnableFor,
         at: EnableStep,
     },
-    // a command, and wait_ready
+    // a command, wait_ready, and how it went
     Waiting {
         task: Task,
         at: WaitStep,

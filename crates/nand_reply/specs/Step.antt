@@ -3,9 +3,10 @@ use Prim.Native.Nat.{ℕ}
 use mathlib.Core.List.{List}
 use Rattle.qspi.specs.declared.bus.Action.{Action}
 use Rattle.qspi.specs.declared.bus.Reply.{Reply}
+use Rattle.frames.specs.declared.frame.Exchanged.{Exchanged}
 use Rattle.frames.specs.declared.frame.Frame.{Frame}
 use Rattle.frames.specs.declared.frame.Outcome.{Outcome}
-use Rattle.spi_flash.specs.Replying.{gave, over, proceeds, steps, deliveredIn}
+use Rattle.spi_flash.specs.Replying.{gave, over, exchanged, steps, deliveredIn}
 pub use Rattle.spi_flash.specs.Replying.{Moved, movedTo}
 use Rattle.spi_flash.specs.Shape as Shape
 use Rattle.nand_answers.specs.declared.answer.Answer.{Answer}
@@ -27,8 +28,8 @@ gaveOf flash job = gave nandShape nandNext flash (jobAs job)
 abbrev pub overOf : SpiNandFlash → Job → Outcome → Stepped
 overOf flash job = over nandShape nandNext flash (jobAs job)
 
-abbrev pub proceedOf : SpiNandFlash → Job → Reply → List ℕ → List ℕ → List ℕ → List ℕ → Moved Stepped
-proceedOf flash job = proceeds nandShape nandNext flash (jobAs job)
+abbrev pub exchangedOf : SpiNandFlash → Job → ℕ → Exchanged → Stepped
+exchangedOf flash job = exchanged nandShape nandNext flash (jobAs job)
 
 abbrev pub stepOf : SpiNandFlash → Reply → List ℕ → List ℕ → List ℕ → List ℕ → Moved Stepped
 stepOf = steps nandShape nandNext

@@ -45,7 +45,8 @@ use Rattle.nand_pages.specs.Page.{uncorrectable, pageReadThen, isBadThen, accep
 use Rattle.nand_pages.specs.Read.{readFrom, readThen}
 use Rattle.nand_pages.specs.Block.{isBad, eraseThen, afterErase, erasedThen, markerThen, fillFrom}
 use Rattle.nand_steps.specs.declared.then.Then.{Then}
-use Rattle.nand_next.specs.Wait.{resetThen, resumeTask, waitThen, waitingThen}
+use Rattle.nand_steps.specs.Go.{goTo, endWith}
+use Rattle.nand_next.specs.Wait.{resetThen, resumeTask, judgeTask, waitThen, waitingThen}
 use Rattle.nand_next.specs.Next.{enabledThen, latchedThen, enablingThen, identifyThen, answeredThen, afterPhase, nextOf}
 use Rattle.flash_runs.proofs.Supplies.{Stays}
 use Rattle.nand_driver.specs.Settle.{thenAs}
@@ -89,9 +90,6 @@ module _ (Ok : Bool → Type 0) where
   OkAsked Asked.BroughtUp = Ok true
   OkAsked Asked.DisableQuad = Unit {0}
   OkAsked Asked.QuadDisabled = Unit {0}
-  OkAsked (Asked.Verdict why) = Unit {0}
-  OkAsked (Asked.Programmed why) = Unit {0}
-  OkAsked (Asked.Erased why) = Unit {0}
 
   abbrev pub OkPhase : Phase → Type 0
   OkPhase Phase.Raised = Ok true
@@ -101,6 +99,7 @@ module _ (Ok : Bool → Type 0) where
   OkPhase (Phase.Waiting task WaitStep.Command waited) = OkTask task
   OkPhase (Phase.Waiting task WaitStep.Look waited) = OkTask task
   OkPhase (Phase.Waiting task WaitStep.Pause waited) = OkTask task
+  OkPhase (Phase.Waiting task WaitStep.Verdict waited) = OkTask task
   OkPhase Phase.ReadingCache = Unit {0}
   OkPhase Phase.Comparing = Unit {0}
   OkPhase (Phase.ReadingMarker why) = Unit {0}
@@ -147,9 +146,6 @@ module _ where
   any-asked Asked.BroughtUp = tt
   any-asked Asked.DisableQuad = tt
   any-asked Asked.QuadDisabled = tt
-  any-asked (Asked.Verdict why) = tt
-  any-asked (Asked.Programmed why) = tt
-  any-asked (Asked.Erased why) = tt
 
   all-ok : (phase : Phase) → OkPhase Any phase
   all-ok Phase.Raised = tt
@@ -159,6 +155,7 @@ module _ where
   all-ok (Phase.Waiting task WaitStep.Command waited) = any-task task
   all-ok (Phase.Waiting task WaitStep.Look waited) = any-task task
   all-ok (Phase.Waiting task WaitStep.Pause waited) = any-task task
+  all-ok (Phase.Waiting task WaitStep.Verdict waited) = any-task task
   all-ok Phase.ReadingCache = tt
   all-ok Phase.Comparing = tt
   all-ok (Phase.ReadingMarker why) = tt
@@ -177,8 +174,8 @@ keeps-pick R false x y h k = k
 
 -- R holds of every step that goes on with a setup of which In holds, in a phase that is ok; In is kept by what bring_up puts down
 pub record Passes (Ok : Bool → Type 0) (In : Setup → Type 0) (R : Then → Type 0) : Type 0 where
-  pub go : (s : Setup) (t : Transfer) (phase : Phase) → In s → OkPhase Ok phase → R (Then.Go s t phase)
-  pub end : (s : Setup) (answer : Answer) → In s → R (Then.End s answer)
+  pub go : (s : Setup) (t : Transfer) (phase : Phase) → In s → OkPhase Ok phase → R (goTo s t phase)
+  pub end : (s : Setup) (answer : Answer) → In s → R (endWith s answer)
   pub fail : (e : FlashError) → R (Then.Fail e)
   pub identified : (s : Setup) (id : NandJedecId) → Ok true → In s → In (identifiedAs s (geometryFor s id) id)
   pub before : (s : Setup) (c : Configuration) → Ok true → In s → In (withBefore s c)
@@ -190,10 +187,10 @@ module _ {Ok : Bool → Type 0} {In : Setup → Type 0} {R : Then → Type 0} (p
   chosen b {x} {y} h k = keeps-pick R b x y h k
 
   module _ (s : Setup) (i : In s) where
-    abbrev goes : {t : Transfer} {phase : Phase} → OkPhase Ok phase → R (Then.Go s t phase)
+    abbrev goes : {t : Transfer} {phase : Phase} → OkPhase Ok phase → R (goTo s t phase)
     goes {t} {phase} h = passes .go s t phase i h
 
-    abbrev ends : {answer : Answer} → R (Then.End s answer)
+    abbrev ends : {answer : Answer} → R (endWith s answer)
     ends {answer} = passes .end s answer i
 
     abbrev fails : {e : FlashError} → R (Then.Fail e)
@@ -367,6 +364,14 @@ module _ {Ok : Bool → Type 0} {In : Setup → Type 0} {R : Then → Type 0} (p
     keeps-task (Task.Program why) h = goes tt
     keeps-task (Task.Erase why) h = goes tt
 
+    keeps-task-judged : (task : Task) (status : Status) → OkTask Ok task → R (judgeTask s task status)
+    unfolding judgeTask
+    keeps-task-judged (Task.Reset why) status h = keeps-reset why h
+    keeps-task-judged (Task.Register why) status h = keeps-written why h
+    keeps-task-judged (Task.Load why) status h = keeps-judged why status
+    keeps-task-judged (Task.Program why) status h = keeps-programmed why status
+    keeps-task-judged (Task.Erase why) status h = keeps-erased why status
+
     keeps-wait : (task : Task) (w : Wait) → OkTask Ok task → R (waitThen s task w)
     unfolding waitThen
     keeps-wait task Wait.Look h = goes h
@@ -386,9 +391,6 @@ module _ {Ok : Bool → Type 0} {In : Setup → Type 0} {R : Then → Type 0} (p
     keeps-answered Asked.BroughtUp v h = passes .end _ _ (passes .after s (configurationOf (v % 256)) h i)
     keeps-answered Asked.DisableQuad v h = keeps-disable (configurationOf (v % 256))
     keeps-answered Asked.QuadDisabled v h = keeps-disabled (configurationOf (v % 256))
-    keeps-answered (Asked.Verdict why) v h = keeps-judged why (statusOf (v % 256))
-    keeps-answered (Asked.Programmed why) v h = keeps-programmed why (statusOf (v % 256))
-    keeps-answered (Asked.Erased why) v h = keeps-erased why (statusOf (v % 256))
 
     pub keeps-phase : (phase : Phase) (v : ℕ) → OkPhase Ok phase → R (afterPhase s phase v)
     unfolding afterPhase enablingThen waitingThen
@@ -399,6 +401,7 @@ module _ {Ok : Bool → Type 0} {In : Setup → Type 0} {R : Then → Type 0} (p
     keeps-phase (Phase.Waiting task WaitStep.Command waited) v h = keeps-wait task (firstWait (timingsOf (taskOperation task))) h
     keeps-phase (Phase.Waiting task WaitStep.Look waited) v h = keeps-wait task (nextWait (timingsOf (taskOperation task)) waited (busyOf (statusOf (v % 256)))) h
     keeps-phase (Phase.Waiting task WaitStep.Pause waited) v h = goes h
+    keeps-phase (Phase.Waiting task WaitStep.Verdict waited) v h = keeps-task-judged task (statusOf (v % 256)) h
     keeps-phase Phase.ReadingCache v h = ends
     keeps-phase Phase.Comparing v h = keeps-compared v
     keeps-phase (Phase.ReadingMarker why) v h = keeps-marker why (v % 256)

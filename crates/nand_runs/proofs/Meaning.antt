@@ -192,6 +192,13 @@ resumed s (Task.Load why) = loaded s why
 resumed s (Task.Program why) = read-status >>= programmed s why
 resumed s (Task.Erase why) = read-status >>= erased s why
 
+unfoldable pub task-judged : Setup → Task → Status → Prog Left
+task-judged s (Task.Reset why) status = reset-done s why
+task-judged s (Task.Register why) status = written s why
+task-judged s (Task.Load why) status = judged s why status
+task-judged s (Task.Program why) status = programmed s why status
+task-judged s (Task.Erase why) status = erased s why status
+
 unfoldable pub enabled : Setup → EnableFor → Prog Left
 enabled s EnableFor.Call = DONE s
 enabled s (EnableFor.Register register value why) =
@@ -227,9 +234,6 @@ answered s (Asked.Unprotect within) v = unprotect-on s within (protectionOf (v %
 answered s Asked.BroughtUp v = brought-up s (configurationOf (v % 256))
 answered s Asked.DisableQuad v = disable-on s (configurationOf (v % 256))
 answered s Asked.QuadDisabled v = check-disabled (configurationOf (v % 256)) >> DONE s
-answered s (Asked.Verdict why) v = judged s why (statusOf (v % 256))
-answered s (Asked.Programmed why) v = programmed s why (statusOf (v % 256))
-answered s (Asked.Erased why) v = erased s why (statusOf (v % 256))
 
 unfoldable pub meaningAt : Setup → Phase → ℕ → Prog Left
 meaningAt s Phase.Raised v = reset >> (jedec-id >>= identified s)
@@ -240,6 +244,7 @@ meaningAt s (Phase.Waiting task WaitStep.Command waited) v = wait-ready (taskOpe
 meaningAt s (Phase.Waiting task WaitStep.Look waited) v = looked task waited v >> resumed s task
 meaningAt s (Phase.Waiting task WaitStep.Pause waited) v =
     waiting (getFeatureCommand REG-STATUS) busyValue (timingsOf (taskOperation task)) waited >> resumed s task
+meaningAt s (Phase.Waiting task WaitStep.Verdict waited) v = task-judged s task (statusOf (v % 256))
 meaningAt s Phase.ReadingCache v = DONE s
 meaningAt s Phase.Comparing v = compared s v
 meaningAt s (Phase.ReadingMarker why) v = marker-read s why (bad v)

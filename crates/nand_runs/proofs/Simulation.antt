@@ -46,13 +46,13 @@ use Rattle.nand_phases.specs.declared.phase.ResetFor.{ResetFor}
 use Rattle.nand_phases.specs.declared.phase.Task.{Task}
 use Rattle.nand_phases.specs.declared.setup.Setup.{Setup}
 use Rattle.nand_steps.specs.Register.{idOf, geometryFor, wantedFor, withQuad, identifiedThen, configuredThen, configureThen, checkConfiguration, unprotectedThen, unprotectThen, disableQuad, quadDisabled, writtenThen}
-use Rattle.nand_steps.specs.Go.{send, enable}
+use Rattle.nand_steps.specs.Go.{goTo, send, enable}
 use Rattle.nand_pages.specs.Cache.{within, readCacheThen, pieceThen, comparedThen, loadProgramThen}
 use Rattle.nand_pages.specs.Page.{loadThen, pageReadThen, isBadThen, acceptedThen, loadedThen, judgedThen, programThen, afterProgram, programmedThen}
 use Rattle.nand_pages.specs.Read.{readFrom}
 use Rattle.nand_pages.specs.Block.{eraseThen, afterErase, erasedThen, markerThen, fillFrom}
 use Rattle.nand_steps.specs.declared.then.Then.{Then}
-use Rattle.nand_next.specs.Wait.{resetThen, resumeTask, waitThen, waitingThen}
+use Rattle.nand_next.specs.Wait.{resetThen, resumeTask, judgeTask, waitThen, waitingThen}
 use Rattle.nand_next.specs.Next.{enabledThen, latchedThen, enablingThen, identifyThen, answeredThen, afterPhase, nextOf}
 use Rattle.spi_nand.specs.declared.config.QuadSetting.{QuadSetting}
 use Rattle.spi_nand.specs.declared.config.NandJedecId.{NandJedecId}
@@ -63,7 +63,7 @@ use Rattle.nand_rust.proofs.FillLoop.{filling-loop}
 use Rattle.flash_runs.proofs.General.{place, decideNext}
 use Rattle.nand_runs.proofs.Places.{parts, decide, Valid}
 use Rattle.nand_runs.proofs.Keeps.{keeps}
-use Rattle.nand_runs.proofs.Meaning.{DONE, latch, compared, bad, confirmed, confirm, program-on, marker-on, fill-on, mark-on, marker-read, verify-on, program-page, read-on, accepted, judged, loaded, after-program, programmed, after-erase, erased, brought-up, unprotected, unprotect-on, configured, check-configured, configure-on, check-disabled, disable-on, written, identified, identify, reset-done, resumed, enabled, looked, answered, meaningAt, meaning}
+use Rattle.nand_runs.proofs.Meaning.{DONE, latch, compared, bad, confirmed, confirm, program-on, marker-on, fill-on, mark-on, marker-read, verify-on, program-page, read-on, accepted, judged, loaded, after-program, programmed, after-erase, erased, brought-up, unprotected, unprotect-on, configured, check-configured, configure-on, check-disabled, disable-on, written, identified, identify, reset-done, resumed, task-judged, enabled, looked, answered, meaningAt, meaning}
 
 -- ---- binding is associative
 
@@ -86,7 +86,7 @@ reads-cache s column n sink phase f e = rw e (by-cases (inCache (s .geometry) co
 
 pub loads-cache : (s : Setup) (column n : ℕ) (payload : Payload) (phase : Phase) (p : Prog Left) → ((v : ℕ) → meaning (place s phase) v ≡ p) →
     load-program-data s column n payload >> p ≡
-    tree meaning (decide (pick (inCache (s .geometry) column n) (Then.Go s (cacheLoadTransfer (s .config) column payload) phase) (Then.Fail FlashError.OutOfBounds)))
+    tree meaning (decide (pick (inCache (s .geometry) column n) (goTo s (cacheLoadTransfer (s .config) column payload) phase) (Then.Fail FlashError.OutOfBounds)))
 unfolding load-program-data refuse _>>=_ _>>_
 loads-cache s column n payload phase p e =
     by-cases (inCache (s .geometry) column n)
@@ -359,7 +359,7 @@ module _ (s : Setup) (valid : inBounds (s .geometry) ≡ true) where
       (λ v. read-on s offset len (done + chunkOf (s .geometry) offset len done)) (reading-piece s offset len done)
 
   loads-on : (why : LoadFor) → loaded s why ≡ tree meaning (decide (loadedThen s why))
-  unfolding loaded loadedThen meaningAt answered read-status _>>=_ _>>_
+  unfolding loaded loadedThen meaningAt task-judged read-status _>>=_ _>>_
   loads-on LoadFor.PageRead = refl
   loads-on LoadFor.ReadPage = refl
   loads-on LoadFor.Verify = refl
@@ -410,12 +410,20 @@ module _ (s : Setup) (valid : inBounds (s .geometry) ≡ true) where
   resets (ResetFor.Identify within) = refl
 
   resumes : (task : Task) → resumed s task ≡ tree meaning (decide (resumeTask s task))
-  unfolding resumed resumeTask read-status meaningAt answered _>>=_ _>>_
+  unfolding resumed resumeTask read-status meaningAt task-judged _>>=_ _>>_
   resumes (Task.Reset why) = resets why
   resumes (Task.Register why) = writes-on s why
   resumes (Task.Load why) = loads-on why
   resumes (Task.Program why) = refl
   resumes (Task.Erase why) = refl
+
+  judges-task : (task : Task) (status : Status) → task-judged s task status ≡ tree meaning (decide (judgeTask s task status))
+  unfolding task-judged judgeTask
+  judges-task (Task.Reset why) status = resets why
+  judges-task (Task.Register why) status = writes-on s why
+  judges-task (Task.Load why) status = judges s why status (accepts why)
+  judges-task (Task.Program why) status = programs-on why status
+  judges-task (Task.Erase why) status = erases-on why status
 
   looks : (task : Task) (waited v : ℕ) → meaningAt s (Phase.Waiting task WaitStep.Look waited) v ≡ tree meaning (decide (afterPhase s (Phase.Waiting task WaitStep.Look waited) v))
   unfolding meaningAt afterPhase waitingThen waitThen nextWait looked _>>=_ _>>_
@@ -449,9 +457,6 @@ module _ (s : Setup) (valid : inBounds (s .geometry) ≡ true) where
   answers Asked.BroughtUp v = refl
   answers Asked.DisableQuad v = disables-on s (configurationOf (v % 256))
   answers Asked.QuadDisabled v = checks-disabled s (configurationOf (v % 256))
-  answers (Asked.Verdict why) v = judges s why (statusOf (v % 256)) (accepts why)
-  answers (Asked.Programmed why) v = programs-on why (statusOf (v % 256))
-  answers (Asked.Erased why) v = erases-on why (statusOf (v % 256))
 
   -- ---- every phase
 
@@ -468,6 +473,7 @@ module _ (s : Setup) (valid : inBounds (s .geometry) ≡ true) where
   follows (Phase.Waiting task WaitStep.Command waited) v = sent s task waited v
   follows (Phase.Waiting task WaitStep.Look waited) v = looks task waited v
   follows (Phase.Waiting task WaitStep.Pause waited) v = waits s task waited
+  follows (Phase.Waiting task WaitStep.Verdict waited) v = judges-task task (statusOf (v % 256))
   follows Phase.ReadingCache v = refl
   follows Phase.Comparing v = compares s v
   follows (Phase.ReadingMarker why) v = markers why v

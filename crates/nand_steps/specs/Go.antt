@@ -17,13 +17,14 @@ use Rattle.nand_phases.specs.declared.phase.ResetFor.{ResetFor}
 use Rattle.nand_phases.specs.declared.phase.Task.{Task}
 use Rattle.nand_phases.specs.declared.phase.WaitStep.{WaitStep}
 use Rattle.nand_phases.specs.declared.setup.Setup.{Setup}
+use Rattle.nand_steps.specs.declared.then.Next.{Next}
 use Rattle.nand_steps.specs.declared.then.Then.{Then}
 
 abbrev pub goTo : Setup → Transfer → Phase → Then
-goTo setup transfer phase = Then.Go setup transfer phase
+goTo setup transfer phase = Then.On setup (Next.Go transfer phase)
 
 abbrev pub endWith : Setup → Answer → Then
-endWith setup answer = Then.End setup answer
+endWith setup answer = Then.On setup (Next.End answer)
 
 -- `Ok(())`
 abbrev pub done : Setup → Then
@@ -40,6 +41,10 @@ askId setup bringUp = goTo setup idTransfer (Phase.Asking (Asked.Id bringUp))
 -- read_status, of a wait or of write_enable
 abbrev pub look : Setup → Phase → Then
 look setup phase = goTo setup (registerTransfer REG-STATUS) phase
+
+-- "A load's verdict is that of the status read after its wait has ended", and likewise a program's and an erase's
+abbrev pub verdict : Setup → Task → Then
+verdict setup task = look setup (Phase.Waiting task WaitStep.Verdict 0)
 
 -- a command that is waited for
 abbrev pub send : Setup → Command → Task → Then

@@ -1,4 +1,5 @@
 // The steps that calls are made of.
+use crate::then::Next;
 use crate::then::Then;
 use nand_answers::answer::Answer;
 use nand_phases::phase::Asked;
@@ -15,24 +16,26 @@ use qspi::transfer::Transfer;
 use spi_nand::command;
 use spi_nand::opcode;
 ghost use mathlib.Core.Path.{_≡_};
-ghost use Rattle.nand_steps.specs.Go.{goTo, endWith, done, ask, askId, look, send, reset, enable};
+ghost use Rattle.nand_steps.specs.Go.{goTo, endWith, done, ask, askId, look, verdict, send, reset, enable};
 
 pub fn go(setup: Setup, transfer: Transfer, phase: Phase) -> Then
     ensures { λ r. ⌜ r ≡ goTo setup transfer phase ⌝ }
 {
-    Then::Go {
+    Then::On {
         setup: setup,
-        transfer: transfer,
-        phase: phase,
+        next: Next::Go {
+            transfer: transfer,
+            phase: phase,
+        },
     }
 }
 
 pub fn end(setup: Setup, answer: Answer) -> Then
     ensures { λ r. ⌜ r ≡ endWith setup answer ⌝ }
 {
-    Then::End {
+    Then::On {
         setup: setup,
-        answer: answer,
+        next: Next::End(answer),
     }
 }
 
@@ -73,6 +76,20 @@ pub fn look(setup: Setup, phase: Phase) -> Then
         setup,
         transfer::register_transfer(opcode::REG_STATUS),
         phase,
+    )
+}
+
+// How a task went, by the status behind its wait.
+pub fn verdict(setup: Setup, task: Task) -> Then
+    ensures { λ r. ⌜ r ≡ verdict setup task ⌝ }
+{
+    look(
+        setup,
+        Phase::Waiting {
+            task: task,
+            at: WaitStep::Verdict,
+            waited: 0,
+        },
     )
 }
 

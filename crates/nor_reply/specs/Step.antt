@@ -3,9 +3,10 @@ use Prim.Native.Nat.{ℕ}
 use mathlib.Core.List.{List}
 use Rattle.qspi.specs.declared.bus.Action.{Action}
 use Rattle.qspi.specs.declared.bus.Reply.{Reply}
+use Rattle.frames.specs.declared.frame.Exchanged.{Exchanged}
 use Rattle.frames.specs.declared.frame.Frame.{Frame}
 use Rattle.frames.specs.declared.frame.Outcome.{Outcome}
-use Rattle.spi_flash.specs.Replying.{gave, over, proceeds, steps, deliveredIn}
+use Rattle.spi_flash.specs.Replying.{gave, over, exchanged, steps, deliveredIn}
 pub use Rattle.spi_flash.specs.Replying.{Moved, movedTo}
 use Rattle.spi_flash.specs.Shape as Shape
 use Rattle.nor_answers.specs.declared.answer.Answer.{Answer}
@@ -27,8 +28,8 @@ gaveOf flash job = gave norShape norNext flash (jobAs job)
 abbrev pub overOf : SpiNorFlash → Job → Outcome → Stepped
 overOf flash job = over norShape norNext flash (jobAs job)
 
-abbrev pub proceedOf : SpiNorFlash → Job → Reply → List ℕ → List ℕ → List ℕ → List ℕ → Moved Stepped
-proceedOf flash job = proceeds norShape norNext flash (jobAs job)
+abbrev pub exchangedOf : SpiNorFlash → Job → ℕ → Exchanged → Stepped
+exchangedOf flash job = exchanged norShape norNext flash (jobAs job)
 
 abbrev pub stepOf : SpiNorFlash → Reply → List ℕ → List ℕ → List ℕ → List ℕ → Moved Stepped
 stepOf = steps norShape norNext

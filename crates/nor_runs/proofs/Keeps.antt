@@ -14,6 +14,7 @@ use Rattle.nor_next.specs.Next.{byteOf, afterPhase}
 use Rattle.nor_steps.specs.Register.{idOf, deviceAt, deviceFor, knownAs, builtThen, identifiedThen}
 use Rattle.nor_pages.specs.Read.{readFrom}
 use Rattle.nor_pages.specs.Write.{programFrom, verifyThen, verifiedThen}
+use Rattle.nor_steps.specs.Go.{goTo, endWith}
 use Rattle.nor_next.specs.Wait.{latchedThen, resumeTask, waitThen, writingThen}
 use Rattle.nor_pages.specs.Erase.{eraseUnit, eraseFrom}
 use Rattle.nor_steps.specs.Protection.{unprotectFirst, unprotectSecond}
@@ -41,8 +42,8 @@ keeps-pick R false x y h k = k
 
 -- what holds of every step of a call on a built driver that holds s
 pub record Passes (R : Then → Type 0) (s : Setup) : Type 0 where
-  pub go : (t : Transfer) (phase : Phase) → Built phase → R (Then.Go s t phase)
-  pub end : (answer : Answer) → R (Then.End s answer)
+  pub go : (t : Transfer) (phase : Phase) → Built phase → R (goTo s t phase)
+  pub end : (answer : Answer) → R (endWith s answer)
   pub fail : (e : FlashError) → R (Then.Fail e)
 
 -- such a call goes on with what the driver holds

@@ -33,6 +33,7 @@ use Rattle.nor_phases.specs.declared.phase.Phase.{Phase}
 use Rattle.nor_answers.specs.declared.answer.Answer.{Answer}
 use Rattle.nor_phases.specs.declared.call.Call.{Call}
 use Rattle.nor_phases.specs.declared.setup.Setup.{Setup}
+use Rattle.nor_steps.specs.Go.{goTo}
 use Rattle.nor_steps.specs.declared.then.Then.{Then}
 use Rattle.nor_runs.proofs.Loops.{erasing-loop}
 use Rattle.nor_runs.proofs.Places.{place, decide, norParts, Valid, Built, Stays}
@@ -155,7 +156,7 @@ module _ (s : Setup) (c : Call) (b d : ℕ) where
   -- one that begins with a transfer whatever it is asked for
   transfers : (t : Transfer) (phase : Phase) → sortOf c b d ≡ uses Takes.Nothing → program ≡ ask t (meaning (place s phase)) → Built phase → Selects t →
       Use norDriver norParts Valid Built meaning s c b d Takes.Nothing (General.go s t phase)
-  transfers t phase sorted follows built selects = used Takes.Nothing (Then.Go s t phase) sorted (λ inside. follows) (refl, built) selects
+  transfers t phase sorted follows built selects = used Takes.Nothing (goTo s t phase) sorted (λ inside. follows) (refl, built) selects
 
   -- a single erase
   unit-used : (kind : EraseKind) (offset : ℕ) → sortOf c b d ≡ uses Takes.Nothing → (inBoundsOf (s .device) ≡ true → program ≡ tree meaning (decide (eraseOne s kind offset))) →

@@ -11,15 +11,16 @@ use Rattle.nor_phases.specs.declared.phase.Task.{Task}
 use Rattle.nor_phases.specs.declared.phase.WriteStep.{WriteStep}
 use Rattle.nor_answers.specs.declared.answer.Answer.{Answer}
 use Rattle.nor_phases.specs.declared.setup.Setup.{Setup}
+use Rattle.nor_steps.specs.declared.then.Next.{Next}
 use Rattle.nor_steps.specs.declared.then.Then.{Then}
 
 -- a transfer, and where the call stands while it is out
 abbrev pub goTo : Setup → Transfer → Phase → Then
-goTo setup transfer phase = Then.Go setup transfer phase
+goTo setup transfer phase = Then.On setup (Next.Go transfer phase)
 
 -- `Ok(..)`
 abbrev pub endWith : Setup → Answer → Then
-endWith setup answer = Then.End setup answer
+endWith setup answer = Then.On setup (Next.End answer)
 
 -- read_status1
 abbrev pub read1Then : Setup → Phase → Then

@@ -1,4 +1,5 @@
 // The steps that calls are made of.
+use crate::then::Next;
 use crate::then::Then;
 use nor_answers::answer::Answer;
 use nor_phases::phase::Phase;
@@ -15,19 +16,21 @@ ghost use Rattle.nor_steps.specs.Go.{goTo, endWith, read1Then, read2Then
 pub fn go(setup: Setup, transfer: Transfer, phase: Phase) -> Then
     ensures { λ r. ⌜ r ≡ goTo setup transfer phase ⌝ }
 {
-    Then::Go {
+    Then::On {
         setup: setup,
-        transfer: transfer,
-        phase: phase,
+        next: Next::Go {
+            transfer: transfer,
+            phase: phase,
+        },
     }
 }
 
 pub fn end(setup: Setup, answer: Answer) -> Then
     ensures { λ r. ⌜ r ≡ endWith setup answer ⌝ }
 {
-    Then::End {
+    Then::On {
         setup: setup,
-        answer: answer,
+        next: Next::End(answer),
     }
 }
 

@@ -1,5 +1,6 @@
 -- The readings, by computation.
 use mathlib.Core.Path.{refl}
+use Rattle.spi_flash.specs.Entry.{entryOf}
 use Rattle.spi_flash.specs.Beginning.{opened, begun, atRest, begins}
 use Rattle.spi_flash.specs.Settling.{settled}
 use Rattle.spi_nor.specs.Config.{capacityBytesOf, fromJedec}
@@ -14,5 +15,5 @@ use Rattle.nand_opening.specs.Opening.{openingOf}
 use Rattle.readings.specs.Readings.{ReadingsHold}
 
 pub readings-hold : ReadingsHold
-unfolding capacityBytesOf fromJedec multipleOf stepKind afterUnit delayBound timingsOf verdictOf withBits blockProtectBits isUnlocked capacityOf inBounds inRange placeOf chunkOf readFrom readThen openingOf opened begun atRest begins settled
+unfolding capacityBytesOf fromJedec multipleOf stepKind afterUnit delayBound timingsOf verdictOf withBits blockProtectBits isUnlocked capacityOf inBounds inRange placeOf chunkOf readFrom readThen openingOf opened begun atRest begins settled entryOf
 readings-hold = record { all = refl }

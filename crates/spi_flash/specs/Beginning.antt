@@ -1,12 +1,12 @@
 -- How each call begins, and how it is turned away (document 01, "Who can cause a refusal": 13, 14, 12, then the Rust's).
 use Prim.Native.Nat.{ℕ}
-use mathlib.Core.Bool.{Bool, false}
-use lib.Dec.{ltb}
+use mathlib.Core.Bool.{Bool, true, false}
 use Rattle.qspi.specs.Choice.{pick}
-use Rattle.qspi.specs.Command.{scratchLeast}
 use Rattle.qspi.specs.declared.transfer.Transfer.{Transfer}
+use Rattle.spi_flash.specs.declared.entry.Entry.{Entry}
 use Rattle.spi_flash.specs.declared.error.FlashError.{FlashError}
 use Rattle.spi_flash.specs.declared.loan.Takes.{Takes}
+use Rattle.spi_flash.specs.Entry.{entryOf}
 use Rattle.spi_flash.specs.Shape.{Then, go, end, fail, Opening, constructing, telling, releasing, working, Running, idle, busy, Shape}
 use Rattle.spi_flash.specs.Settling.{settled}
 
@@ -23,6 +23,11 @@ module _ {F S P A G : Type 0} (shape : Shape F S P A G) where
   -- the accessors take no scratch and change nothing
   unfoldable pub told : F → A → G
   told flash answer = pick (shape .built flash) (shape .ended flash answer) (shape .refused flash FlashError.OutOfTurn)
+
+  -- a call that may begin comes to this
+  abbrev pub entered : F → Entry → G → G
+  entered flash Entry.Open x = x
+  entered flash (Entry.Shut error) x = shape .refused flash error
 
   -- a call that begins has delivered nothing yet
   abbrev pub freshCall : F → F
@@ -41,9 +46,7 @@ module _ {F S P A G C : Type 0} (shape : Shape F S P A G) (calls : Calls S P A C
 
   -- a construction may begin whenever no call is running; from its first action on the driver is not built
   unfoldable pub constructed : F → S → ℕ → G
-  constructed flash setup scratch =
-      pick (ltb scratch scratchLeast) (shape .refused flash FlashError.Misfit)
-      (pick (calls .inBounds setup) (raising setup) (shape .refused flash FlashError.InvalidGeometry))
+  constructed flash setup scratch = entered shape flash (entryOf true scratch (calls .inBounds setup)) (raising setup)
 
   -- free leaves the driver not built: the Rust moves the value away
   unfoldable pub freed : F → G
@@ -52,13 +55,9 @@ module _ {F S P A G C : Type 0} (shape : Shape F S P A G) (calls : Calls S P A C
       (shape .ended (shape .resting (shape .setup flash) false (shape .delivered flash)) (calls .done))
       (shape .refused flash FlashError.OutOfTurn)
 
-  -- a use of the bus: 13 where the driver is not built, 14 for a scratch under 264, 12 for a device outside the bounds
+  -- a use of the bus
   unfoldable pub begun : F → ℕ → Takes → Then S P A → G
-  begun flash scratch takes then =
-      pick (shape .built flash)
-      (pick (ltb scratch scratchLeast) (shape .refused flash FlashError.Misfit)
-      (pick (calls .inBounds (shape .setup flash)) (opened shape flash takes then) (shape .refused flash FlashError.InvalidGeometry)))
-      (shape .refused flash FlashError.OutOfTurn)
+  begun flash scratch takes then = entered shape flash (entryOf (shape .built flash) scratch (calls .inBounds (shape .setup flash))) (opened shape flash takes then)
 
   -- ---- every call, with the lengths of what is lent: scratch, buffer, data
 

@@ -1,6 +1,7 @@
 pub mod Error
 pub mod Bits
 pub mod Loan
+pub mod Entry
 pub mod Wait
 pub mod Shape
 pub mod Settling

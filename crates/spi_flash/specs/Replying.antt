@@ -2,14 +2,13 @@
 use Prim.Native.Nat.{ℕ}
 use mathlib.Core.List.{List}
 use lib.ListN.{length, take}
-use Rattle.qspi.specs.Choice.{pick}
 use Rattle.qspi.specs.declared.bus.Action.{Action}
 use Rattle.qspi.specs.declared.bus.Reply.{Reply}
-use Rattle.frames.specs.Frame.{AfterExchange, exchangeOf, deliveredBy}
+use Rattle.frames.specs.Frame.{AfterExchange, deliveredBy}
 use Rattle.frames.specs.declared.frame.Exchanged.{Exchanged}
 use Rattle.frames.specs.declared.frame.Frame.{Frame}
 use Rattle.frames.specs.declared.frame.Outcome.{Outcome}
-use Rattle.spi_flash.specs.Loan.{readyOf}
+use Rattle.spi_flash.specs.Loan.{exchangeFor}
 use Rattle.spi_flash.specs.declared.error.FlashError.{FlashError}
 use Rattle.spi_flash.specs.Shape.{Then, Job, Running, idle, busy, Shape}
 use Rattle.spi_flash.specs.Settling.{settled}
@@ -34,7 +33,7 @@ module _ {F S P A G : Type 0} (shape : Shape F S P A G) (next : S → P → Outc
   abbrev pub over : F → Job P → Outcome → G
   over flash job outcome = settled shape flash (job .takes) (next (shape .setup flash) (job .phase) outcome)
 
-  -- "reply of another kind or length" is 14; a fitting one brings the transfer on, or ends it
+  -- what does not fit is 14; what fits brings the transfer on, or ends it
   abbrev pub exchanged : F → Job P → ℕ → Exchanged → G
   exchanged flash job delivered Exchanged.Misfit = shape .refused flash FlashError.Misfit
   exchanged flash job delivered (Exchanged.Gave frame action) = gave flash job frame delivered action
@@ -44,13 +43,11 @@ module _ {F S P A G : Type 0} (shape : Shape F S P A G) (next : S → P → Outc
   abbrev pub afterwards : F → Job P → ℕ → AfterExchange → Moved G
   afterwards flash job delivered x = movedTo (exchanged flash job delivered (x .exchanged)) (x .scratch) (x .buffer)
 
-  -- lent bytes that are not fit for a step, or a reply that does not fit, change nothing: 14
-  unfoldable pub proceeds : F → Job P → Reply → List ℕ → List ℕ → List ℕ → List ℕ → Moved G
+  -- a reply in a call under way
+  abbrev pub proceeds : F → Job P → Reply → List ℕ → List ℕ → List ℕ → List ℕ → Moved G
   proceeds flash job reply bytes scratch buffer lent =
-      pick (readyOf (job .takes) (length scratch) (length buffer) (length lent))
-      (afterwards flash job (deliveredBy (job .frame) reply (length bytes) (length buffer) (shape .delivered flash))
-      (exchangeOf (job .frame) reply bytes scratch buffer lent))
-      (movedTo (shape .refused flash FlashError.Misfit) scratch buffer)
+      afterwards flash job (deliveredBy (job .frame) reply (length bytes) (length buffer) (shape .delivered flash))
+      (exchangeFor (job .takes) (job .frame) reply bytes scratch buffer lent)
 
   abbrev pub stepAt : Running P → F → Reply → List ℕ → List ℕ → List ℕ → List ℕ → Moved G
   stepAt idle flash reply bytes scratch buffer lent = movedTo (shape .refused flash FlashError.OutOfTurn) scratch buffer

@@ -1,4 +1,5 @@
-// What both flash drivers share: their errors, what a call takes, and the rule of their waits.
+// What both flash drivers share: their errors, what a call takes, whether it may begin, and the rule of their waits.
+pub mod entry;
 pub mod error;
 pub mod loan;
 pub mod wait;

@@ -8,7 +8,7 @@ use Rattle.frames.specs.Frame.{exchangeOf}
 use Rattle.frames.specs.declared.frame.Exchanged.{Exchanged}
 use Rattle.spi_flash.specs.Replying as Replying
 use Rattle.spi_flash.specs.Settling as Settling
-use Rattle.spi_flash.specs.Loan.{Lent, readyFor}
+use Rattle.spi_flash.specs.Loan.{Lent, readyFor, exchangeFor}
 use Rattle.spi_flash.specs.Machine.{lentAs}
 use Rattle.spi_flash.specs.declared.loan.Takes.{Takes}
 use Rattle.flash_runs.proofs.General as General
@@ -30,7 +30,7 @@ module _ {S P A C : Type 0} (parts : Parts S P A C) where
 
   pub general-hears : (running : Running P) (flash : Flash S P) (kind : Reply) (bytes : List ℕ) (l : Lent) →
       Hears (awaitedIn running) kind bytes l (answerAt parts running flash kind bytes l .given)
-  unfolding Replying.proceeds
+  unfolding exchangeFor
   general-hears idle flash kind bytes l = refl
   general-hears (busy job) flash kind bytes l =
       let x = exchangeOf (job .frame) kind bytes (l .scratch) (l .buffer) (l .given) in

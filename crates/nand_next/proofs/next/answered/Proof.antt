@@ -136,45 +136,6 @@ returns-10 : tie.Need-returns-10
 unfolding answeredThen
 returns-10 c = simp (c .before .before .enum-told6 .given .1, ← c .quad-disabled .ensures, ← c .before .from-byte9 .ensures, ← c .before .before .before .before .byte .ensures)
 
-enum-known-asked-5 : tie.Need-enum-known-asked-5
-enum-known-asked-5 c = search needs
-
-from-byte-requires-10 : tie.Need-from-byte-requires-10
-from-byte-requires-10 c κs = search needs
-
-judged-requires : tie.Need-judged-requires
-judged-requires c κs = search needs
-
-returns-11 : tie.Need-returns-11
-unfolding answeredThen
-returns-11 c = simp (c .before .before .before .asked5 .given .1, ← c .judged .ensures, ← c .before .from-byte10 .ensures, ← c .before .before .before .before .before .byte .ensures)
-
-enum-known-asked-6 : tie.Need-enum-known-asked-6
-enum-known-asked-6 c = search needs
-
-from-byte-requires-11 : tie.Need-from-byte-requires-11
-from-byte-requires-11 c κs = search needs
-
-programmed-requires : tie.Need-programmed-requires
-programmed-requires c κs = search needs
-
-returns-12 : tie.Need-returns-12
-unfolding answeredThen
-returns-12 c = simp (c .before .before .before .asked6 .given .1, ← c .programmed .ensures, ← c .before .from-byte11 .ensures, ← c .before .before .before .before .before .byte .ensures)
-
-enum-known-asked-7 : tie.Need-enum-known-asked-7
-enum-known-asked-7 c = search needs
-
-from-byte-requires-12 : tie.Need-from-byte-requires-12
-from-byte-requires-12 c κs = search needs
-
-erased-requires : tie.Need-erased-requires
-erased-requires c κs = search needs
-
-returns-13 : tie.Need-returns-13
-unfolding answeredThen
-returns-13 c = simp (c .before .before .before .asked7 .given .1, ← c .erased .ensures, ← c .before .from-byte12 .ensures, ← c .before .before .before .before .before .byte .ensures)
-
 pub answered-spec : {M : Type 1} → statement M
 answered-spec =
     tie.close
@@ -219,16 +180,4 @@ answered-spec =
     enum-told-6
     from-byte-requires-9
     quad-disabled-requires
-    returns-10
-    enum-known-asked-5
-    from-byte-requires-10
-    judged-requires
-    returns-11
-    enum-known-asked-6
-    from-byte-requires-11
-    programmed-requires
-    returns-12
-    enum-known-asked-7
-    from-byte-requires-12
-    erased-requires
-    returns-13)
+    returns-10)

@@ -36,22 +36,22 @@ returns-3 c = simp (c .before .before .task3 .given .1, ← c .loaded .ensures)
 enum-known-task-4 : tie.Need-enum-known-task-4
 enum-known-task-4 c = search needs
 
-ask-requires : tie.Need-ask-requires
-ask-requires c κs = search needs
+verdict-requires : tie.Need-verdict-requires
+verdict-requires c κs = search needs
 
 returns-4 : tie.Need-returns-4
 unfolding resumeTask
-returns-4 c = simp (c .before .before .task4 .given .1, ← c .ask .ensures)
+returns-4 c = simp (c .before .before .task4 .given .1, ← c .verdict .ensures)
 
 enum-known-task-5 : tie.Need-enum-known-task-5
 enum-known-task-5 c = search needs
 
-ask-requires-2 : tie.Need-ask-requires-2
-ask-requires-2 c κs = search needs
+verdict-requires-2 : tie.Need-verdict-requires-2
+verdict-requires-2 c κs = search needs
 
 returns-5 : tie.Need-returns-5
 unfolding resumeTask
-returns-5 c = simp (c .before .before .task5 .given .1, ← c .ask2 .ensures)
+returns-5 c = simp (c .before .before .task5 .given .1, ← c .verdict2 .ensures)
 
 pub resume-spec : {M : Type 1} → statement M
 resume-spec =
@@ -67,8 +67,8 @@ resume-spec =
     loaded-requires
     returns-3
     enum-known-task-4
-    ask-requires
+    verdict-requires
     returns-4
     enum-known-task-5
-    ask-requires-2
+    verdict-requires-2
     returns-5)

@@ -33,6 +33,16 @@ returns-3 : tie.Need-returns-3
 unfolding waitingThen
 returns-3 c = simp (c .before .enum-told3 .given .1, ← c .look .ensures)
 
+enum-told-4 : tie.Need-enum-told-4
+enum-told-4 c = search needs
+
+judged-requires : tie.Need-judged-requires
+judged-requires c κs = search needs
+
+returns-4 : tie.Need-returns-4
+unfolding waitingThen
+returns-4 c = simp (c .before .enum-told4 .given .1, ← c .judged .ensures)
+
 pub waiting-spec : {M : Type 1} → statement M
 waiting-spec =
     tie.close
@@ -45,4 +55,7 @@ waiting-spec =
     returns-2
     enum-told-3
     look-requires
-    returns-3)
+    returns-3
+    enum-told-4
+    judged-requires
+    returns-4)

@@ -6,12 +6,12 @@ use Rattle.nand_pages.proofs.page.loaded.Tie as tie
 asks-verdict-requires : tie.Need-asks-verdict-requires
 asks-verdict-requires c κs = search needs
 
-ask-requires : tie.Need-ask-requires
-ask-requires c κs = search needs
+verdict-requires : tie.Need-verdict-requires
+verdict-requires c κs = search needs
 
 returns : tie.Need-returns
 unfolding loadedThen
-returns c = simp (c .before .if1 .taken, ← c .ask .ensures, ← c .before .before .asks-verdict .ensures)
+returns c = simp (c .before .if1 .taken, ← c .verdict .ensures, ← c .before .before .asks-verdict .ensures)
 
 accepted-requires : tie.Need-accepted-requires
 accepted-requires c κs = search needs
@@ -22,4 +22,4 @@ returns-2 c = simp (c .before .if1 .left, ← c .accepted .ensures, ← c .befor
 
 pub loaded-spec : {M : Type 1} → statement M
 loaded-spec =
-    tie.close (tie.spec asks-verdict-requires ask-requires returns accepted-requires returns-2)
+    tie.close (tie.spec asks-verdict-requires verdict-requires returns accepted-requires returns-2)

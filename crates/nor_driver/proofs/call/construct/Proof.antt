@@ -1,6 +1,7 @@
-use Rattle.qspi.proofs.Tests.{tests}
 use mathlib.Core.Bool.{true}
 use mathlib.Core.Path.{_≡_}
+use Rattle.spi_flash.specs.Entry.{entryOf}
+use Rattle.spi_flash.specs.declared.entry.Entry.{Entry}
 use Rattle.spi_nor.specs.Config.{inBoundsOf}
 use Rattle.nor_driver.specs.Call.{givenDevice}
 use Rattle.spi_flash.specs.Beginning.{constructed}
@@ -8,48 +9,49 @@ use borrow.Author.Needs.{needs}
 use Rattle.nor_driver.proofs.call.construct.Statement.{statement}
 use Rattle.nor_driver.proofs.call.construct.Tie as tie
 
-refused-requires : tie.Need-refused-requires
-refused-requires c κs = search needs
-
-returns : tie.Need-returns
-unfolding constructed
-returns c =
-    let h0 = c .before .if1 .taken in simp (← c .refused .ensures, tests)
-
 given-device-requires : tie.Need-given-device-requires
 given-device-requires c κs = search needs
 
 in-bounds-requires : tie.Need-in-bounds-requires
 in-bounds-requires c κs = search needs
 
+may-begin-requires : tie.Need-may-begin-requires
+may-begin-requires c κs = search needs
+
+enum-told : tie.Need-enum-told
+enum-told c = search needs
+
 raise-requires : tie.Need-raise-requires
 raise-requires c κs = search needs
 
+returns : tie.Need-returns
+unfolding constructed
+returns c =
+    let args = c .before .before .before .before .before .before .args in
+    let enters : entryOf true (args .scratch-len) (inBoundsOf (givenDevice (args .config))) ≡ Entry.Open =
+        simp (← c .before .before .before .before .before .given-device .ensures, ← c .before .before .before .before .in-bounds .ensures, ← c .before .before .before .may-begin .ensures) (c .before .enum-told .given .1) in
+    simp (enters, ← c .raise .ensures)
+
+enum-known-error : tie.Need-enum-known-error
+enum-known-error c = search needs
+
+refused-requires : tie.Need-refused-requires
+refused-requires c κs = search needs
+
 returns-2 : tie.Need-returns-2
 unfolding constructed
-returns-2 c =
-    let h0 = c .before .before .before .before .if1 .left in
-    let config = c .before .before .before .before .before .args .config in
-    let inside : inBoundsOf (givenDevice config) ≡ true = simp (← c .before .before .before .given-device .ensures, ← c .before .before .in-bounds .ensures) (c .before .if2 .taken) in
-    simp (inside, ← c .raise .ensures, tests)
-
-refused-requires-2 : tie.Need-refused-requires-2
-refused-requires-2 c κs = search needs
-
-returns-3 : tie.Need-returns-3
-unfolding constructed
-returns-3 c =
-    let h0 = c .before .before .before .before .if1 .left in simp (c .before .if2 .left, ← c .refused2 .ensures, ← c .before .before .in-bounds .ensures, ← c .before .before .before .given-device .ensures, tests)
+returns-2 c = simp (c .before .before .error .given .1, ← c .refused .ensures, ← c .before .before .before .before .may-begin .ensures, ← c .before .before .before .before .before .in-bounds .ensures, ← c .before .before .before .before .before .before .given-device .ensures)
 
 pub construct-spec : {M : Type 1} → statement M
 construct-spec =
     tie.close
     (tie.spec
-    refused-requires
-    returns
     given-device-requires
     in-bounds-requires
+    may-begin-requires
+    enum-told
     raise-requires
-    returns-2
-    refused-requires-2
-    returns-3)
+    returns
+    enum-known-error
+    refused-requires
+    returns-2)

@@ -6,43 +6,23 @@ use Rattle.nor_driver.proofs.settle.settle.Tie as tie
 enum-known-then : tie.Need-enum-known-then
 enum-known-then c = search needs
 
-start-requires : tie.Need-start-requires
-start-requires c κs = search needs
+go-on-requires : tie.Need-go-on-requires
+go-on-requires c κs = search needs
 
 returns : tie.Need-returns
-unfolding settled
-returns c = simp (c .before .before .then .given .1, ← c .start .ensures)
+returns c = simp (c .before .before .then .given .1, ← c .go-on .ensures)
 
 enum-known-then-2 : tie.Need-enum-known-then-2
 enum-known-then-2 c = search needs
 
-succeeded-requires : tie.Need-succeeded-requires
-succeeded-requires c κs = search needs
-
-returns-2 : tie.Need-returns-2
-unfolding settled
-returns-2 c = simp (c .before .before .then2 .given .1, ← c .succeeded .ensures)
-
-enum-known-then-3 : tie.Need-enum-known-then-3
-enum-known-then-3 c = search needs
-
 failed-requires : tie.Need-failed-requires
 failed-requires c κs = search needs
 
-returns-3 : tie.Need-returns-3
+returns-2 : tie.Need-returns-2
 unfolding settled
-returns-3 c = simp (c .before .before .then3 .given .1, ← c .failed .ensures)
+returns-2 c = simp (c .before .before .then2 .given .1, ← c .failed .ensures)
 
 pub settle-spec : {M : Type 1} → statement M
 settle-spec =
     tie.close
-    (tie.spec
-    enum-known-then
-    start-requires
-    returns
-    enum-known-then-2
-    succeeded-requires
-    returns-2
-    enum-known-then-3
-    failed-requires
-    returns-3)
+    (tie.spec enum-known-then go-on-requires returns enum-known-then-2 failed-requires returns-2)

@@ -1,0 +1,44 @@
+use borrow.Author.Needs.{needs}
+use Rattle.nor_reply.proofs.step.exchanged.Statement.{statement}
+use Rattle.nor_reply.proofs.step.exchanged.Tie as tie
+
+enum-told : tie.Need-enum-told
+enum-told c = search needs
+
+refused-requires : tie.Need-refused-requires
+refused-requires c κs = search needs
+
+returns : tie.Need-returns
+returns c = simp (c .before .enum-told .given .1, ← c .refused .ensures)
+
+enum-known-exchanged : tie.Need-enum-known-exchanged
+enum-known-exchanged c = search needs
+
+gave-requires : tie.Need-gave-requires
+gave-requires c κs = search needs
+
+returns-2 : tie.Need-returns-2
+returns-2 c = simp (c .before .before .exchanged .given .1, ← c .gave .ensures)
+
+enum-known-exchanged-2 : tie.Need-enum-known-exchanged-2
+enum-known-exchanged-2 c = search needs
+
+over-requires : tie.Need-over-requires
+over-requires c κs = search needs
+
+returns-3 : tie.Need-returns-3
+returns-3 c = simp (c .before .before .exchanged2 .given .1, ← c .over .ensures)
+
+pub exchanged-spec : {M : Type 1} → statement M
+exchanged-spec =
+    tie.close
+    (tie.spec
+    enum-told
+    refused-requires
+    returns
+    enum-known-exchanged
+    gave-requires
+    returns-2
+    enum-known-exchanged-2
+    over-requires
+    returns-3)
