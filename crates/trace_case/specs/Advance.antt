@@ -6,8 +6,9 @@ use Rattle.flash.specs.Drive.{Moved}
 use Rattle.flash.specs.declared.state.Stepped.{Stepped}
 use Rattle.flash_lent.specs.Lent.{askedOver}
 use Rattle.flash_turns.specs.State.{begunIn}
-use Rattle.flash_turns.specs.Turn.{TurnTaken, turnOf}
+use Rattle.flash_turns.specs.Turn.{TurnTaken}
 use Rattle.trace_state.specs.State.{traceOf}
+use Rattle.trace_state.specs.Taken.{takenBy}
 use Rattle.trace_state.specs.declared.state.Trace.{Trace}
 
 -- a trace, the lent bytes and what was printed, after a turn
@@ -33,5 +34,4 @@ turnedThen stepped scratch t = turnedBy t (askedOver stepped (t .ask) scratch (t
 -- one turn; a trace that is over stays
 unfoldable pub advancedOf : Trace → List ℕ → List ℕ → List ℕ → List ℕ → Text → Turned
 advancedOf trace text scratch room reply out =
-    turnedThen (trace .stepped) scratch
-    (turnOf (trace .settings) (trace .place) (trace .stepped .given) (trace .stepped .delivered) text scratch room reply out)
+    turnedThen (trace .stepped) scratch (takenBy trace text scratch room reply out)

@@ -1,8 +1,8 @@
 // One turn of a trace, and what it asks of the driver.
 use flash_lent::lent;
-use flash_turns::turn;
 use trace_state::state;
 use trace_state::state::Trace;
+use trace_state::taken;
 ghost use mathlib.Core.Path.{_≡_};
 ghost use Rattle.lines.specs.Text.{textOf};
 ghost use Rattle.trace_case.specs.Advance.{turnedTo, advancedOf};
@@ -19,23 +19,8 @@ pub fn advance(
 ) -> Trace
     ensures { λ r. ⌜ turnedTo r (now (scratch .exit)) (now (room .exit)) (now (reply .exit)) (textOf (now (out .exit)) (now (at .exit))) ≡ advancedOf trace (now (text .entry)) (now (scratch .entry)) (now (room .entry)) (now (reply .entry)) (textOf (now (out .entry)) (now (at .entry))) ⌝ }
 {
-    let stepped = trace.stepped;
-    let given = stepped.given;
-    let settings = trace.settings;
-    let place = trace.place;
-    let turn = turn::turn(
-        settings,
-        place,
-        given,
-        stepped.delivered,
-        text,
-        scratch,
-        room,
-        reply,
-        out,
-        *at,
-    );
+    let turn = taken::turned(trace, text, scratch, room, reply, out, at);
     let ask = turn.ask;
-    *at = turn.at;
+    let stepped = trace.stepped;
     state::traced_by(turn, lent::asked(stepped, ask, scratch, room, reply))
 }

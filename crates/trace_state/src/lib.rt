@@ -1,2 +1,3 @@
-// Where a trace stands, with its driver.
+// Where a trace stands, with its driver, and a turn of it.
 pub mod state;
+pub mod taken;

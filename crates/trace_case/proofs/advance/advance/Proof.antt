@@ -3,8 +3,8 @@ use borrow.Author.Needs.{needs}
 use Rattle.trace_case.proofs.advance.advance.Statement.{statement}
 use Rattle.trace_case.proofs.advance.advance.Tie as tie
 
-turn-requires : tie.Need-turn-requires
-turn-requires c κs = search needs
+turned-requires : tie.Need-turned-requires
+turned-requires c κs = search needs
 
 asked-requires : tie.Need-asked-requires
 asked-requires c κs = search needs
@@ -27,14 +27,14 @@ same-length-4 c = search needs
 returns : tie.Need-returns
 returns c =
     let asked = c .before .before .before .before .before in
-    let turn = asked .before .before .before .before .before .before .before .before .before .before in
-    advanced _ _ _ _ _ _ _ _ _ _ _ _ _ _ (turn .turn .ensures) (asked .asked .ensures) (c .traced-by .ensures)
+    let turn = asked .before .before .before .before .before .before .before .before .before .before .before in
+    advanced _ _ _ _ _ _ (turn .turned .result) _ _ _ _ _ _ _ _ (turn .turned .ensures) (asked .asked .ensures) (c .traced-by .ensures)
 
 pub advance-spec : {M : Type 1} → statement M
 advance-spec =
     tie.close
     (tie.spec
-    turn-requires
+    turned-requires
     asked-requires
     traced-by-requires
     same-length
