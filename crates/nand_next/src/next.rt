@@ -152,7 +152,7 @@ fn answered(setup: Setup, asked: Asked, v: u64) -> Then
         Asked::Configured { before, bring_up } => {
             return register::check_configuration(
                 setup,
-                before,
+                Configuration::from_byte(before),
                 bring_up,
                 Configuration::from_byte(b),
             );

@@ -1,6 +1,4 @@
 // Where a call stands: which of its transfers is out, and what that is for.
-use spi_nand::status::Configuration;
-use spi_nand::status::Protection;
 ghost use mathlib.Core.Path.{_≡_};
 ghost use Rattle.nand_phases.specs.Verdict.{asksVerdict};
 
@@ -15,13 +13,13 @@ pub enum RegisterFor {
     Call,
     // ensure_configuration, with the register as it was read.
     Configure {
-        before: Configuration,
+        before: u8,
         bring_up: bool,
     },
     DisableQuad,
     // unprotect, likewise.
     Unprotect {
-        before: Protection,
+        before: u8,
         bring_up: bool,
     },
 }
@@ -136,7 +134,7 @@ pub enum Asked {
         bring_up: bool,
     },
     Configured {
-        before: Configuration,
+        before: u8,
         bring_up: bool,
     },
     Unprotect {

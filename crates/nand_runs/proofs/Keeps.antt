@@ -330,7 +330,7 @@ module _ {Ok : Bool → Type 0} {In : Setup → Type 0} {R : Then → Type 0} (p
     keeps-written RegisterFor.Call h = ends
     keeps-written (RegisterFor.Configure c within) h = goes h
     keeps-written RegisterFor.DisableQuad h = goes tt
-    keeps-written (RegisterFor.Unprotect p within) h = keeps-unprotected p within h
+    keeps-written (RegisterFor.Unprotect p within) h = keeps-unprotected (protectionOf p) within h
 
     keeps-identify : (id : NandJedecId) (within : Bool) → Ok within → R (identifyThen s id within)
     unfolding identifyThen identifiedThen
@@ -386,7 +386,7 @@ module _ {Ok : Bool → Type 0} {In : Setup → Type 0} {R : Then → Type 0} (p
     keeps-answered Asked.Protection v h = ends
     keeps-answered (Asked.Id within) v h = keeps-identify (idOf v) within h
     keeps-answered (Asked.Configure within) v h = keeps-configure (configurationOf (v % 256)) within h
-    keeps-answered (Asked.Configured c within) v h = keeps-check c within (configurationOf (v % 256)) h
+    keeps-answered (Asked.Configured c within) v h = keeps-check (configurationOf c) within (configurationOf (v % 256)) h
     keeps-answered (Asked.Unprotect within) v h = keeps-unprotect (protectionOf (v % 256)) within h
     keeps-answered Asked.BroughtUp v h = passes .end _ _ (passes .after s (configurationOf (v % 256)) h i)
     keeps-answered Asked.DisableQuad v h = keeps-disable (configurationOf (v % 256))

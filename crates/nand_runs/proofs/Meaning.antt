@@ -165,9 +165,10 @@ disable-on s before =
 
 unfoldable pub written : Setup → RegisterFor → Prog Left
 written s RegisterFor.Call = DONE s
-written s (RegisterFor.Configure before within) = (read-configuration >>= check-configured s before) >> configured s before within
+written s (RegisterFor.Configure before within) =
+    (read-configuration >>= check-configured s (configurationOf before)) >> configured s (configurationOf before) within
 written s RegisterFor.DisableQuad = (read-configuration >>= check-disabled) >> DONE s
-written s (RegisterFor.Unprotect before within) = unprotected s before within
+written s (RegisterFor.Unprotect before within) = unprotected s (protectionOf before) within
 
 unfoldable pub identified : Setup → NandJedecId → Prog Left
 identified s id =
@@ -229,7 +230,7 @@ answered s Asked.Configuration v = ret (leaving s (Answer.Configuration (configu
 answered s Asked.Protection v = ret (leaving s (Answer.Protection (protectionOf (v % 256))))
 answered s (Asked.Id within) v = identify s within (id-of v)
 answered s (Asked.Configure within) v = configure-on s within (configurationOf (v % 256))
-answered s (Asked.Configured before within) v = check-configured s before (configurationOf (v % 256)) >> configured s before within
+answered s (Asked.Configured before within) v = check-configured s (configurationOf before) (configurationOf (v % 256)) >> configured s (configurationOf before) within
 answered s (Asked.Unprotect within) v = unprotect-on s within (protectionOf (v % 256))
 answered s Asked.BroughtUp v = brought-up s (configurationOf (v % 256))
 answered s Asked.DisableQuad v = disable-on s (configurationOf (v % 256))

@@ -24,7 +24,7 @@ use Rattle.spi_flash.proofs.Waiting.{wait-in-general}
 use Rattle.spi_nand.specs.Command.{getFeatureCommand, setFeatureCommand, writeEnableCommand, pageReadCommand, programExecuteCommand, blockEraseCommand}
 use Rattle.spi_nand.specs.Config.{inBounds, pageCountOf, firstPageOf}
 use Rattle.spi_nand.specs.Opcode.{REG-STATUS, REG-CONFIGURATION, REG-BLOCK-PROTECTION, timingsOf}
-use Rattle.spi_nand.specs.Status.{busyValue, statusOf, writeEnabledOf, eraseFailedOf, programFailedOf, verdictOf, configurationOf, protectionOf, configurationByte, quadEnabledOf, withBits, ECC-ENABLE, BUFFER-READ, QUAD-ENABLE, OPERATIONAL, sameConfiguration, isUnlocked}
+use Rattle.spi_nand.specs.Status.{busyValue, statusOf, writeEnabledOf, eraseFailedOf, programFailedOf, verdictOf, configurationOf, protectionOf, protectionByte, configurationByte, quadEnabledOf, withBits, ECC-ENABLE, BUFFER-READ, QUAD-ENABLE, OPERATIONAL, sameConfiguration, isUnlocked}
 use Rattle.spi_nand.specs.declared.opcode.Operation.{Operation}
 use Rattle.spi_nand.specs.declared.status.Configuration.{Configuration}
 use Rattle.spi_nand.specs.declared.status.Protection.{Protection}
@@ -245,7 +245,7 @@ unfolding configure-on configureThen written _>>=_ _>>_
 configures-on s within before = rw (same-wanted s before)
     (by-cases (sameConfiguration (wanted-of (s .config) before) before)
     (λ h. rw h (configures s before within))
-    (λ h. rw h (then-assoc (write-register _ _) _ (configured s before within) ∙ registers s _ _ (RegisterFor.Configure before within))))
+    (λ h. rw h (then-assoc (write-register _ _) _ (configured s before within) ∙ registers s _ _ (RegisterFor.Configure (configurationByte before) within))))
 
 checks-configured : (s : Setup) (before : Configuration) (within : Bool) (after : Configuration) →
     check-configured s before after >> configured s before within ≡ tree meaning (decide (checkConfiguration s before within after))
@@ -263,7 +263,7 @@ unfolding unprotect-on unprotectThen written _>>=_ _>>_
 unprotects-on s within before =
     by-cases (isUnlocked before)
     (λ h. rw h (unprotects s before within))
-    (λ h. rw h (registers s REG-BLOCK-PROTECTION 0 (RegisterFor.Unprotect before within)))
+    (λ h. rw h (registers s REG-BLOCK-PROTECTION 0 (RegisterFor.Unprotect (protectionByte before) within)))
 
 disables-on : (s : Setup) (before : Configuration) → disable-on s before ≡ tree meaning (decide (disableQuad s before))
 unfolding disable-on disableQuad written _>>=_ _>>_
@@ -281,7 +281,7 @@ unfolding written writtenThen meaningAt answered read-configuration _>>=_ _>>_
 writes-on s RegisterFor.Call = refl
 writes-on s (RegisterFor.Configure before within) = refl
 writes-on s RegisterFor.DisableQuad = refl
-writes-on s (RegisterFor.Unprotect before within) = unprotects s before within
+writes-on s (RegisterFor.Unprotect before within) = unprotects s (protectionOf before) within
 
 identifies : (s : Setup) (id : NandJedecId) → identified s id ≡ tree meaning (decide (identifiedThen s id))
 unfolding identified identifiedThen meaningAt answered read-configuration _>>=_ _>>_
@@ -452,7 +452,7 @@ module _ (s : Setup) (valid : inBounds (s .geometry) ≡ true) where
   answers Asked.Protection v = refl
   answers (Asked.Id within) v = identifies-within s within (idOf v)
   answers (Asked.Configure within) v = configures-on s within (configurationOf (v % 256))
-  answers (Asked.Configured before within) v = checks-configured s before within (configurationOf (v % 256))
+  answers (Asked.Configured before within) v = checks-configured s (configurationOf before) within (configurationOf (v % 256))
   answers (Asked.Unprotect within) v = unprotects-on s within (protectionOf (v % 256))
   answers Asked.BroughtUp v = refl
   answers Asked.DisableQuad v = disables-on s (configurationOf (v % 256))

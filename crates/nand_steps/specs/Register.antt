@@ -7,7 +7,7 @@ use Rattle.qspi.specs.Choice.{pick}
 use Rattle.spi_flash.specs.declared.error.FlashError.{FlashError}
 use Rattle.spi_nand.specs.Config.{fromJedec}
 use Rattle.spi_nand.specs.Opcode.{REG-CONFIGURATION, REG-BLOCK-PROTECTION}
-use Rattle.spi_nand.specs.Status.{ECC-ENABLE, BUFFER-READ, QUAD-ENABLE, OPERATIONAL, configurationByte, quadEnabledOf, withBits, sameConfiguration, isUnlocked}
+use Rattle.spi_nand.specs.Status.{ECC-ENABLE, BUFFER-READ, QUAD-ENABLE, OPERATIONAL, configurationByte, protectionOf, protectionByte, quadEnabledOf, withBits, sameConfiguration, isUnlocked}
 use Rattle.spi_nand.specs.declared.config.GeometrySetting.{GeometrySetting}
 use Rattle.spi_nand.specs.declared.config.NandGeometry.{NandGeometry}
 use Rattle.spi_nand.specs.declared.config.NandJedecId.{NandJedecId}
@@ -72,7 +72,7 @@ configuredThen setup before true = ask (withBefore setup before) REG-BLOCK-PROTE
 unfoldable pub configureThen : Setup → Configuration → Bool → Then
 configureThen setup before bringUp =
     pick (sameConfiguration (wantedFor (setup .config) before) before) (configuredThen setup before bringUp)
-    (enable setup (EnableFor.Register REG-CONFIGURATION (configurationByte (wantedFor (setup .config) before)) (RegisterFor.Configure before bringUp)))
+    (enable setup (EnableFor.Register REG-CONFIGURATION (configurationByte (wantedFor (setup .config) before)) (RegisterFor.Configure (configurationByte before) bringUp)))
 
 -- `if self.read_configuration()? != wanted`
 unfoldable pub checkConfiguration : Setup → Configuration → Bool → Configuration → Then
@@ -88,7 +88,7 @@ unprotectedThen setup before true = ask (withProtection setup before) REG-CONFIG
 unfoldable pub unprotectThen : Setup → Protection → Bool → Then
 unprotectThen setup before bringUp =
     pick (isUnlocked before) (unprotectedThen setup before bringUp)
-    (enable setup (EnableFor.Register REG-BLOCK-PROTECTION 0 (RegisterFor.Unprotect before bringUp)))
+    (enable setup (EnableFor.Register REG-BLOCK-PROTECTION 0 (RegisterFor.Unprotect (protectionByte before) bringUp)))
 
 -- ---- disable_quad
 
@@ -107,4 +107,4 @@ unfoldable pub writtenThen : Setup → RegisterFor → Then
 writtenThen setup RegisterFor.Call = done setup
 writtenThen setup (RegisterFor.Configure before bringUp) = ask setup REG-CONFIGURATION (Asked.Configured before bringUp)
 writtenThen setup RegisterFor.DisableQuad = ask setup REG-CONFIGURATION Asked.QuadDisabled
-writtenThen setup (RegisterFor.Unprotect before bringUp) = unprotectedThen setup before bringUp
+writtenThen setup (RegisterFor.Unprotect before bringUp) = unprotectedThen setup (protectionOf before) bringUp

@@ -91,7 +91,7 @@ pub fn configure(setup: Setup, before: Configuration, bring_up: bool) -> Then
             register: opcode::REG_CONFIGURATION,
             value: after.byte(),
             why: RegisterFor::Configure {
-                before: before,
+                before: before.byte(),
                 bring_up: bring_up,
             },
         },
@@ -141,7 +141,7 @@ pub fn unprotect(setup: Setup, before: Protection, bring_up: bool) -> Then
             register: opcode::REG_BLOCK_PROTECTION,
             value: 0x00,
             why: RegisterFor::Unprotect {
-                before: before,
+                before: before.byte(),
                 bring_up: bring_up,
             },
         },
@@ -217,6 +217,8 @@ pub fn written(setup: Setup, why: RegisterFor) -> Then
         RegisterFor::DisableQuad => {
             return go::ask(setup, opcode::REG_CONFIGURATION, Asked::QuadDisabled);
         }
-        RegisterFor::Unprotect { before, bring_up } => return unprotected(setup, before, bring_up),
+        RegisterFor::Unprotect { before, bring_up } => {
+            return unprotected(setup, Protection::from_byte(before), bring_up);
+        }
     }
 }

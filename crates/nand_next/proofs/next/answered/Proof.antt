@@ -77,64 +77,67 @@ enum-known-asked-3 c = search needs
 from-byte-requires-5 : tie.Need-from-byte-requires-5
 from-byte-requires-5 c κs = search needs
 
+from-byte-requires-6 : tie.Need-from-byte-requires-6
+from-byte-requires-6 c κs = search needs
+
 check-configuration-requires : tie.Need-check-configuration-requires
 check-configuration-requires c κs = search needs
 
 returns-6 : tie.Need-returns-6
 unfolding answeredThen
-returns-6 c = simp (c .before .before .before .asked3 .given .1, ← c .check-configuration .ensures, ← c .before .from-byte5 .ensures, ← c .before .before .before .before .before .byte .ensures)
+returns-6 c = simp (c .before .before .before .before .asked3 .given .1, ← c .check-configuration .ensures, ← c .before .from-byte6 .ensures, ← c .before .before .from-byte5 .ensures, ← c .before .before .before .before .before .before .byte .ensures)
 
 enum-known-asked-4 : tie.Need-enum-known-asked-4
 enum-known-asked-4 c = search needs
 
-from-byte-requires-6 : tie.Need-from-byte-requires-6
-from-byte-requires-6 c κs = search needs
+from-byte-requires-7 : tie.Need-from-byte-requires-7
+from-byte-requires-7 c κs = search needs
 
 unprotect-requires : tie.Need-unprotect-requires
 unprotect-requires c κs = search needs
 
 returns-7 : tie.Need-returns-7
 unfolding answeredThen
-returns-7 c = simp (c .before .before .before .asked4 .given .1, ← c .unprotect .ensures, ← c .before .from-byte6 .ensures, ← c .before .before .before .before .before .byte .ensures)
+returns-7 c = simp (c .before .before .before .asked4 .given .1, ← c .unprotect .ensures, ← c .before .from-byte7 .ensures, ← c .before .before .before .before .before .byte .ensures)
 
 enum-told-4 : tie.Need-enum-told-4
 enum-told-4 c = search needs
 
-from-byte-requires-7 : tie.Need-from-byte-requires-7
-from-byte-requires-7 c κs = search needs
+from-byte-requires-8 : tie.Need-from-byte-requires-8
+from-byte-requires-8 c κs = search needs
 
 brought-up-requires : tie.Need-brought-up-requires
 brought-up-requires c κs = search needs
 
 returns-8 : tie.Need-returns-8
 unfolding answeredThen
-returns-8 c = simp (c .before .before .enum-told4 .given .1, ← c .brought-up .ensures, ← c .before .from-byte7 .ensures, ← c .before .before .before .before .byte .ensures)
+returns-8 c = simp (c .before .before .enum-told4 .given .1, ← c .brought-up .ensures, ← c .before .from-byte8 .ensures, ← c .before .before .before .before .byte .ensures)
 
 enum-told-5 : tie.Need-enum-told-5
 enum-told-5 c = search needs
 
-from-byte-requires-8 : tie.Need-from-byte-requires-8
-from-byte-requires-8 c κs = search needs
+from-byte-requires-9 : tie.Need-from-byte-requires-9
+from-byte-requires-9 c κs = search needs
 
 disable-quad-requires : tie.Need-disable-quad-requires
 disable-quad-requires c κs = search needs
 
 returns-9 : tie.Need-returns-9
 unfolding answeredThen
-returns-9 c = simp (c .before .before .enum-told5 .given .1, ← c .disable-quad .ensures, ← c .before .from-byte8 .ensures, ← c .before .before .before .before .byte .ensures)
+returns-9 c = simp (c .before .before .enum-told5 .given .1, ← c .disable-quad .ensures, ← c .before .from-byte9 .ensures, ← c .before .before .before .before .byte .ensures)
 
 enum-told-6 : tie.Need-enum-told-6
 enum-told-6 c = search needs
 
-from-byte-requires-9 : tie.Need-from-byte-requires-9
-from-byte-requires-9 c κs = search needs
+from-byte-requires-10 : tie.Need-from-byte-requires-10
+from-byte-requires-10 c κs = search needs
 
 quad-disabled-requires : tie.Need-quad-disabled-requires
 quad-disabled-requires c κs = search needs
 
 returns-10 : tie.Need-returns-10
 unfolding answeredThen
-returns-10 c = simp (c .before .before .enum-told6 .given .1, ← c .quad-disabled .ensures, ← c .before .from-byte9 .ensures, ← c .before .before .before .before .byte .ensures)
+returns-10 c = simp (c .before .before .enum-told6 .given .1, ← c .quad-disabled .ensures, ← c .before .from-byte10 .ensures, ← c .before .before .before .before .byte .ensures)
 
 pub answered-spec : {M : Type 1} → statement M
 answered-spec =
@@ -163,21 +166,22 @@ answered-spec =
     returns-5
     enum-known-asked-3
     from-byte-requires-5
+    from-byte-requires-6
     check-configuration-requires
     returns-6
     enum-known-asked-4
-    from-byte-requires-6
+    from-byte-requires-7
     unprotect-requires
     returns-7
     enum-told-4
-    from-byte-requires-7
+    from-byte-requires-8
     brought-up-requires
     returns-8
     enum-told-5
-    from-byte-requires-8
+    from-byte-requires-9
     disable-quad-requires
     returns-9
     enum-told-6
-    from-byte-requires-9
+    from-byte-requires-10
     quad-disabled-requires
     returns-10)

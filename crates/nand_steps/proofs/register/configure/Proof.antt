@@ -19,12 +19,15 @@ returns c = simp (c .before .if1 .taken, ← c .configured .ensures, ← c .befo
 byte-requires : tie.Need-byte-requires
 byte-requires c κs = search needs
 
+byte-requires-2 : tie.Need-byte-requires-2
+byte-requires-2 c κs = search needs
+
 enable-requires : tie.Need-enable-requires
 enable-requires c κs = search needs
 
 returns-2 : tie.Need-returns-2
 unfolding configureThen
-returns-2 c = simp (c .before .before .if1 .left, ← c .enable .ensures, ← c .before .byte .ensures, ← c .before .before .before .same .ensures, ← c .before .before .before .before .wanted .ensures)
+returns-2 c = simp (c .before .before .before .if1 .left, ← c .enable .ensures, ← c .before .byte2 .ensures, ← c .before .before .byte .ensures, ← c .before .before .before .before .same .ensures, ← c .before .before .before .before .before .wanted .ensures)
 
 pub configure-spec : {M : Type 1} → statement M
 configure-spec =
@@ -35,5 +38,6 @@ configure-spec =
     configured-requires
     returns
     byte-requires
+    byte-requires-2
     enable-requires
     returns-2)

@@ -36,12 +36,15 @@ returns-3 c = simp (c .before .enum-told2 .given .1, ← c .ask2 .ensures)
 enum-known-why-2 : tie.Need-enum-known-why-2
 enum-known-why-2 c = search needs
 
+from-byte-requires : tie.Need-from-byte-requires
+from-byte-requires c κs = search needs
+
 unprotected-requires : tie.Need-unprotected-requires
 unprotected-requires c κs = search needs
 
 returns-4 : tie.Need-returns-4
 unfolding writtenThen
-returns-4 c = simp (c .before .before .why2 .given .1, ← c .unprotected .ensures)
+returns-4 c = simp (c .before .before .before .why2 .given .1, ← c .unprotected .ensures, ← c .before .from-byte .ensures)
 
 pub written-spec : {M : Type 1} → statement M
 written-spec =
@@ -57,5 +60,6 @@ written-spec =
     ask-requires-2
     returns-3
     enum-known-why-2
+    from-byte-requires
     unprotected-requires
     returns-4)
