@@ -225,9 +225,9 @@ module _ {F C S A : Type 0} {driver : Driver F C S A} (known : Known driver) whe
     judged-entry : (b short inside : Bool) (x : Stepped S P A) →
         RefusedAs (pick b (pick short (some FlashError.Misfit) (pick inside none (some FlashError.InvalidGeometry))) (some FlashError.OutOfTurn))
         (leftWith plain
-          (Beginning.entered plain there
-            (pick b (pick short (Entry.Shut FlashError.Misfit) (pick inside Entry.Open (Entry.Shut FlashError.InvalidGeometry))) (Entry.Shut FlashError.OutOfTurn)) x)
-          l .given)
+        (Beginning.entered plain there
+        (pick b (pick short (Entry.Shut FlashError.Misfit) (pick inside Entry.Open (Entry.Shut FlashError.InvalidGeometry))) (Entry.Shut FlashError.OutOfTurn)) x)
+        l .given)
     judged-entry true true inside x = refl
     judged-entry true false true x = tt
     judged-entry true false false x = refl

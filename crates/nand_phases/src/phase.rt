@@ -12,16 +12,10 @@ pub enum ResetFor {
 pub enum RegisterFor {
     Call,
     // ensure_configuration, with the register as it was read.
-    Configure {
-        before: u8,
-        bring_up: bool,
-    },
+    Configure { before: u8, bring_up: bool },
     DisableQuad,
     // unprotect, likewise.
-    Unprotect {
-        before: u8,
-        bring_up: bool,
-    },
+    Unprotect { before: u8, bring_up: bool },
 }
 
 // What is_bad_block is for.
@@ -126,20 +120,11 @@ pub enum Asked {
     Configuration,
     Protection,
     // jedec_id, reset_and_identify; bring_up
-    Id {
-        bring_up: bool,
-    },
+    Id { bring_up: bool },
     // ensure_configuration: before the write, and after it
-    Configure {
-        bring_up: bool,
-    },
-    Configured {
-        before: u8,
-        bring_up: bool,
-    },
-    Unprotect {
-        bring_up: bool,
-    },
+    Configure { bring_up: bool },
+    Configured { before: u8, bring_up: bool },
+    Unprotect { bring_up: bool },
     // bring_up's last
     BroughtUp,
     // disable_quad, likewise

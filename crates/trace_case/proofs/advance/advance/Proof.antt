@@ -6,11 +6,8 @@ use Rattle.trace_case.proofs.advance.advance.Tie as tie
 turned-requires : tie.Need-turned-requires
 turned-requires c κs = search needs
 
-asked-requires : tie.Need-asked-requires
-asked-requires c κs = search needs
-
-traced-by-requires : tie.Need-traced-by-requires
-traced-by-requires c κs = search needs
+answered-requires : tie.Need-answered-requires
+answered-requires c κs = search needs
 
 same-length : tie.Need-same-length
 same-length c = search needs
@@ -26,17 +23,16 @@ same-length-4 c = search needs
 
 returns : tie.Need-returns
 returns c =
-    let asked = c .before .before .before .before .before in
-    let turn = asked .before .before .before .before .before .before .before .before .before .before .before in
-    advanced _ _ _ _ _ _ (turn .turned .result) _ _ _ _ _ _ _ _ (turn .turned .ensures) (asked .asked .ensures) (c .traced-by .ensures)
+    let answered = c .before .before .before .before in
+    let turn = answered .before .before .before .before .before .before .before .before .before .before in
+    advanced _ _ _ _ _ _ (turn .turned .result) _ _ _ _ _ _ _ (turn .turned .ensures) (answered .answered .ensures)
 
 pub advance-spec : {M : Type 1} → statement M
 advance-spec =
     tie.close
     (tie.spec
     turned-requires
-    asked-requires
-    traced-by-requires
+    answered-requires
     same-length
     same-length-2
     same-length-3
