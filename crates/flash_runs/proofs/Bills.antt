@@ -11,6 +11,7 @@ use Rattle.frames.specs.Frame.{firstOf, exchangeOf}
 use Rattle.frames.specs.declared.frame.Exchanged.{Exchanged}
 use Rattle.frames.specs.declared.frame.Frame.{Frame}
 use Rattle.frames.specs.declared.frame.Outcome.{Outcome}
+use Rattle.spi_flash.specs.Ending.{Ending, endsWith}
 use Rattle.spi_flash.specs.Loan.{Lent}
 use Rattle.spi_flash.specs.Prog.{Prog, ask}
 use Rattle.spi_flash.specs.Path.{Past, End, going, done, failed, spent, delays, actions, asked, Well, Bounded, Reaches, Ends}
@@ -21,7 +22,7 @@ use Rattle.spi_flash.specs.Machine.{Decision, more, well, bad, Config, machine,
 use Rattle.spi_flash.proofs.Runs.{heard-view, first-delay, trail-asks, run-bound, run-ends}
 use Rattle.spi_flash.proofs.Reach.{reached}
 use Rattle.flash_runs.specs.Driver.{Left, Driver, takesAt, programAt, boundAt, actionsAt, endsAt, runAt}
-use Rattle.flash_runs.specs.Promises.{Ending, endsWith, endingAs, endedAs, EndsAs, ComesTo, EndsWell, Demand3}
+use Rattle.flash_runs.specs.Promises.{endingAs, endedAs, EndsAs, ComesTo, EndsWell, Demand3}
 use Rattle.flash_runs.proofs.General.{Parts, Place, decideNext}
 use Rattle.flash_runs.proofs.Supplies.{Asks, Supplies, Known}
 use Rattle.flash_runs.proofs.Views.{shape, Opens, Nothing-begun, view, begun-opens, no-run, opens-run}

@@ -30,7 +30,7 @@ use Rattle.flash_runs.specs.Driver.{Left, Sort, takesOf, worksOn, Driver
 use Rattle.flash_runs.specs.Refusals.{restRefusal, RefusedAs, awaits, outThen, outAfter, replyRefusal, refusalIn, RefusesJust}
 use Rattle.flash_runs.specs.System.{leftWith}
 use Rattle.flash_runs.proofs.General as General
-use Rattle.flash_runs.proofs.General.{Then, Opening, constructing, telling, releasing, working, Parts, Job, Running, idle, busy, isBusy, Flash, flashOf, Stepped, plain, Step, settled, told, opened, freed, constructed, begun, openedAs, afterwards, proceeds, general}
+use Rattle.flash_runs.proofs.General.{Then, Opening, constructing, telling, releasing, working, Parts, Job, Running, idle, busy, isBusy, Flash, flashOf, Stepped, plain, Step, settled, told, opened, freed, constructed, begun, openedAs, afterwards, general}
 use Rattle.flash_runs.proofs.Supplies.{OpensAs, Known}
 use Rattle.flash_runs.proofs.Steps.{step-view}
 use Rattle.flash_runs.proofs.Runs.{viewed, same-run, same-state}

@@ -7,7 +7,7 @@ use mathlib.Core.List.{List, [], _∷_}
 use lib.ListN.{length, take}
 use Rattle.qspi.specs.Bytes.{AllBytes}
 use Rattle.qspi.specs.declared.bus.Reply.{Reply}
-use Rattle.spi_flash.specs.Error.{errorNumber, errorValues}
+use Rattle.spi_flash.specs.Ending.{Ending, goes, endsWith, endsBy}
 use Rattle.spi_flash.specs.Loan.{Lent}
 use Rattle.spi_flash.specs.Run.{Event, Entry, Given, act, ended, failed, refused, delayAsked, Fitting, HasEnded, Answer, RealReplies, answering, Lending}
 use Rattle.spi_flash.specs.Seen.{Undisturbed, KeepsBuffer, EndsHigh}
@@ -25,14 +25,10 @@ GivesAction (failed e) = ⊥
 GivesAction (refused e) = ⊥
 
 -- how a step has ended the call: document 01's number and values; with an action or a refusal the call goes on
-pub data Ending : Type 0 where
-  goes : Ending
-  endsWith : (number : ℕ) (values : List ℕ) → Ending
-
 abbrev pub endingAs : {S A : Type 0} → (A → List ℕ) → Given (Left S A) → Ending
 endingAs values (act shown) = goes
 endingAs values (ended left) = endsWith 0 (values (left .answer))
-endingAs values (failed error) = endsWith (errorNumber error) (errorValues error)
+endingAs values (failed error) = endsBy error
 endingAs values (refused error) = goes
 
 -- the call has ended so

@@ -11,7 +11,7 @@ use Rattle.flash_runs.proofs.Supplies.{Asks, Bounds, Supplies, Known}
 use Rattle.nand_phases.specs.declared.call.Call.{Call}
 use Rattle.nand_phases.specs.declared.phase.Phase.{Phase}
 use Rattle.nand_phases.specs.declared.setup.Setup.{Setup}
-use Rattle.nand_rust.specs.Bound.{delayBound, actionBound}
+use Rattle.nand_rust.specs.Bound.{delayBound, weightOf, actionBound}
 use Rattle.nand_rust.specs.Program.{Left, rustProgram, programOf}
 use Rattle.nand_rust.specs.ProgramBounds.{Begins, canEnd}
 use Rattle.nand_rust.proofs.Begins.{begins}
@@ -34,7 +34,7 @@ pub record SameWork (s : Setup) (c : Call) (b d : ℕ) : Type 0 where
   pub ends : canEnd (worksOn (sortOf c b d) s) c ≡ canEnd s c
 
 same-work : (s : Setup) (c : Call) (b d : ℕ) → SameWork s c b d
-unfolding sortOf delayBound actionBound rustProgram
+unfolding sortOf delayBound weightOf rustProgram
 same-work s Call.New b d = record { bound = refl; acts = refl; program = refl; ends = refl }
 same-work s (Call.WithConfig config) b d = record { bound = refl; acts = refl; program = refl; ends = refl }
 same-work s Call.Info b d = record { bound = refl; acts = refl; program = refl; ends = refl }

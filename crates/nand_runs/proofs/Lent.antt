@@ -11,7 +11,7 @@ use Rattle.qspi.proofs.Cases.{by-cases}
 use Rattle.spi_flash.specs.Path.{Bounded}
 use Rattle.spi_flash.specs.Prog.{Prog, ret, _>>=_, _>>_, refuse, transfer}
 use Rattle.spi_flash.specs.declared.error.FlashError.{FlashError}
-use Rattle.spi_flash.proofs.Laws.{bounded-more, bounded-ret, answered, ended}
+use Rattle.spi_flash.proofs.Laws.{bounded-more, answered}
 use Rattle.spi_flash.proofs.Unread.{bufferReads, unread-delayed}
 use Rattle.flash_runs.specs.Driver.{takesOf}
 use Rattle.flash_runs.proofs.Filling.{Fills}
@@ -22,7 +22,6 @@ use Rattle.spi_nand.specs.Config.{inBounds, pageCountOf, singleConfig}
 use Rattle.spi_nand.specs.Opcode.{REG-STATUS, timingsOf}
 use Rattle.spi_nand.specs.Status.{busyValue, verdictOf}
 use Rattle.spi_nand.specs.declared.config.QuadSetting.{QuadSetting}
-use Rattle.spi_nand.specs.declared.config.SpiNandConfig.{SpiNandConfig}
 use Rattle.spi_nand.specs.declared.opcode.Operation.{Operation}
 use Rattle.spi_nand.proofs.Geometries.{geometries-hold}
 use Rattle.nand_phases.specs.Transfer.{cacheReadAt, cacheReadTransfer, cacheLoadAt, inCache, inRange, placeOf, pageAt, columnAt, chunkOf}
@@ -31,18 +30,23 @@ use Rattle.nand_phases.specs.declared.call.Call.{Call}
 use Rattle.nand_phases.specs.declared.setup.Setup.{Setup}
 use Rattle.nand_rust.specs.Rust.{uncorrectable, read-status, wait-ready, load-page, page-read, read-cache, read-page, reading, read}
 use Rattle.nand_rust.specs.Observer.{readsCache}
-use Rattle.nand_rust.specs.Program.{Left, pageTaken, rustProgram, programOf}
+use Rattle.nand_rust.specs.Program.{Left, rustProgram, programOf}
 use Rattle.nand_rust.proofs.ReadLoop.{chunk-some, reading-loop}
-use Rattle.nand_rust.proofs.Weights.{taking, Weighs, bounded-status, bounded-configuration, bounded-protection, bounded-enable, bounded-write-register, bounded-disable-quad, bounded-reset, bounded-jedec-id, bounded-identify, bounded-ensure, bounded-unprotect, bounded-page-read, bounded-load-data, bounded-execute, bounded-write-page, bounded-erase, bounded-is-bad, bounded-mark, bounded-with-config, bounded-refused-page}
+use Rattle.nand_rust.specs.Bound.{Figures, weightOf}
+use Rattle.nand_rust.proofs.Weights.{taking, Weighs, bounded-with-config, weighed-construction, weighed}
 use Rattle.nand_runs.specs.Run.{sortOf, nandDriver}
 use Rattle.nand_runs.proofs.Meaning.{DONE}
 use Rattle.nand_runs.proofs.Simulation.{bind-assoc}
 
 -- ---- no other call reads into the buffer
 
-unread-figures : Weighs bufferReads 0 0 1 (λ operation. 0)
+abbrev readFigures : Figures
+readFigures = record { raise = 0; send = 0; moved = 0; fill = 1; waits = λ operation. 0 }
+
+unread-figures : Weighs bufferReads readFigures
 unfolding wait-ready
 unread-figures = record {
+  raised = omega arith;
   sent = λ c. omega arith;
   number = λ c n. omega arith;
   taken = taken;
@@ -50,7 +54,7 @@ unread-figures = record {
   waited = λ operation. unread-delayed (getFeatureCommand REG-STATUS) busyValue (timingsOf operation);
 }
   where
-    taken : (q : QuadSetting) (column n : ℕ) (sink : Sink) → bufferReads (cacheReadAt q column n sink) ≤ taking 0 1 sink
+    taken : (q : QuadSetting) (column n : ℕ) (sink : Sink) → bufferReads (cacheReadAt q column n sink) ≤ taking readFigures sink
     taken QuadSetting.Single column n Sink.Number = omega arith
     taken QuadSetting.Single column n (Sink.Buffer at) = omega arith
     taken QuadSetting.Single column n (Sink.Compare from) = omega arith
@@ -62,12 +66,8 @@ unread-figures = record {
     loaded QuadSetting.Single column payload = omega arith
     loaded (QuadSetting.Quad q) column payload = omega arith
 
-construction-unread : (s : Setup) (config : SpiNandConfig) (b d : ℕ) → Bounded bufferReads 0 (programOf s (Call.WithConfig config) b d)
-unfolding rustProgram
-construction-unread s config b d =
-    by-cases (pageTaken (config .geometry))
-    (λ e. rw e (answered _ (omega arith) (bounded-with-config unread-figures 0 (omega arith) config)))
-    (λ e. rw e (bounded-more (omega arith) (bounded-refused-page unread-figures 0 (omega arith))))
+unread : (s : Setup) → inBounds (s .geometry) ≡ true → (c : Call) (b d : ℕ) → weightOf readFigures s c b ≤ 0 → Bounded bufferReads 0 (programOf s c b d)
+unread s h c b d none = bounded-more none (weighed unread-figures s h c b d)
 
 -- ---- a load asks for registers alone
 
@@ -157,31 +157,31 @@ module _ (s : Setup) where
 -- ---- every call
 
 pub lent : (s : Setup) (c : Call) (b d : ℕ) → Bounds nandDriver s c b d → LendsAs nandDriver s c b d (takesOf (sortOf c b d))
-unfolding sortOf rustProgram
-lent s Call.New b d h = answered _ (omega arith) (bounded-with-config unread-figures 0 (omega arith) singleConfig)
-lent s (Call.WithConfig config) b d h = construction-unread s config b d
-lent s Call.Info b d h = bounded-ret
-lent s Call.Config b d h = bounded-ret
-lent s Call.Geometry b d h = bounded-ret
-lent s Call.Free b d h = bounded-ret
-lent s Call.DisableQuad b d h = ended _ (omega arith) (bounded-disable-quad unread-figures)
-lent s (Call.WriteRegister register value) b d h = ended _ (omega arith) (bounded-write-register unread-figures register value)
-lent s Call.WriteEnable b d h = ended _ (omega arith) (bounded-enable unread-figures)
-lent s Call.ReadStatus b d h = answered _ (omega arith) (bounded-status unread-figures)
-lent s Call.ReadConfiguration b d h = answered _ (omega arith) (bounded-configuration unread-figures)
-lent s Call.ReadProtection b d h = answered _ (omega arith) (bounded-protection unread-figures)
-lent s Call.Reset b d h = ended _ (omega arith) (bounded-reset unread-figures)
-lent s Call.JedecId b d h = answered _ (omega arith) (bounded-jedec-id unread-figures)
-lent s Call.ResetAndIdentify b d h = answered _ (omega arith) (bounded-identify unread-figures)
-lent s Call.EnsureConfiguration b d h = answered _ (omega arith) (bounded-ensure unread-figures (s .config))
-lent s Call.Unprotect b d h = answered _ (omega arith) (bounded-unprotect unread-figures)
-lent s (Call.PageRead page) b d h = ended _ (omega arith) (bounded-page-read unread-figures s page)
+unfolding sortOf rustProgram weightOf
+lent s Call.New b d h = answered _ (omega arith) (bounded-with-config unread-figures singleConfig)
+lent s (Call.WithConfig config) b d h = bounded-more (omega arith) (weighed-construction unread-figures s config b d)
+lent s Call.Info b d h = unread s h Call.Info b d (omega arith)
+lent s Call.Config b d h = unread s h Call.Config b d (omega arith)
+lent s Call.Geometry b d h = unread s h Call.Geometry b d (omega arith)
+lent s Call.Free b d h = unread s h Call.Free b d (omega arith)
+lent s Call.DisableQuad b d h = unread s h Call.DisableQuad b d (omega arith)
+lent s (Call.WriteRegister register value) b d h = unread s h (Call.WriteRegister register value) b d (omega arith)
+lent s Call.WriteEnable b d h = unread s h Call.WriteEnable b d (omega arith)
+lent s Call.ReadStatus b d h = unread s h Call.ReadStatus b d (omega arith)
+lent s Call.ReadConfiguration b d h = unread s h Call.ReadConfiguration b d (omega arith)
+lent s Call.ReadProtection b d h = unread s h Call.ReadProtection b d (omega arith)
+lent s Call.Reset b d h = unread s h Call.Reset b d (omega arith)
+lent s Call.JedecId b d h = unread s h Call.JedecId b d (omega arith)
+lent s Call.ResetAndIdentify b d h = unread s h Call.ResetAndIdentify b d (omega arith)
+lent s Call.EnsureConfiguration b d h = unread s h Call.EnsureConfiguration b d (omega arith)
+lent s Call.Unprotect b d h = unread s h Call.Unprotect b d (omega arith)
+lent s (Call.PageRead page) b d h = unread s h (Call.PageRead page) b d (omega arith)
 lent s (Call.ReadCache column) b d h = (refl, fills-cache s column b)
-lent s (Call.LoadProgramData column) b d h = ended _ (omega arith) (bounded-load-data unread-figures s column d (Payload.Data 0 d))
-lent s (Call.ProgramExecute page) b d h = ended _ (omega arith) (bounded-execute unread-figures s page)
+lent s (Call.LoadProgramData column) b d h = unread s h (Call.LoadProgramData column) b d (omega arith)
+lent s (Call.ProgramExecute page) b d h = unread s h (Call.ProgramExecute page) b d (omega arith)
 lent s (Call.ReadPage page) b d h = (refl, fills-page s page b)
-lent s (Call.WritePage page) b d h = ended _ (omega arith) (bounded-write-page unread-figures s page d)
-lent s (Call.EraseBlock block) b d h = ended _ (omega arith) (bounded-erase unread-figures s block)
+lent s (Call.WritePage page) b d h = unread s h (Call.WritePage page) b d (omega arith)
+lent s (Call.EraseBlock block) b d h = unread s h (Call.EraseBlock block) b d (omega arith)
 lent s (Call.Read offset) b d h = (refl, fills-read s h offset b)
-lent s (Call.IsBadBlock block) b d h = answered _ (omega arith) (bounded-is-bad unread-figures s block)
-lent s (Call.MarkBadBlock block) b d h = ended _ (omega arith) (bounded-mark unread-figures s h block)
+lent s (Call.IsBadBlock block) b d h = unread s h (Call.IsBadBlock block) b d (omega arith)
+lent s (Call.MarkBadBlock block) b d h = unread s h (Call.MarkBadBlock block) b d (omega arith)

@@ -13,80 +13,70 @@ use Rattle.spi_flash.specs.Prog.{transfer}
 use Rattle.spi_flash.specs.Path.{Bounded}
 use Rattle.spi_flash.proofs.Laws.{bounded-more, bounded-ret, bounded-fail, bounded-bind, bounded-then, bounded-refuse, bounded-if, bounded-transfer, bounded-guard, answered, ended}
 use Rattle.spi_flash.proofs.Loops.{bounded-loop}
-use Rattle.spi_nand.specs.Config.{inBounds}
+use Rattle.qspi.proofs.Cases.{by-cases}
+use Rattle.spi_nand.specs.Config.{singleConfig, inBounds}
 use Rattle.spi_nand.specs.Status.{quadEnabledOf, sameConfiguration, isUnlocked}
 use Rattle.spi_nand.specs.declared.config.QuadSetting.{QuadSetting}
 use Rattle.spi_nand.specs.declared.config.SpiNandConfig.{SpiNandConfig}
 use Rattle.spi_nand.specs.declared.opcode.Operation.{Operation}
 use Rattle.nand_phases.specs.Transfer.{cacheReadAt, cacheReadTransfer, cacheLoadAt, cacheLoadTransfer}
+use Rattle.nand_phases.specs.declared.call.Call.{Call}
 use Rattle.nand_phases.specs.declared.setup.Setup.{Setup}
-use Rattle.nand_rust.specs.Bound.{pagesTouched, fillers}
-use Rattle.nand_rust.specs.Program.{refused-page}
+use Rattle.nand_rust.specs.Bound.{pagesTouched, fillers, Figures, task, enabling, writing, identifying, configuring, unprotecting, constructing, loading, programming, erasing, marking, weightOf}
+use Rattle.nand_rust.specs.Program.{refused-page, pageTaken, rustProgram, programOf}
 use Rattle.nand_rust.specs.Rust.{read-register, read-status, read-configuration, read-protection, wait-ready, write-enable, write-register, disable-quad, reset, jedec-id, reset-and-identify, wanted-of, ensure-configuration, unprotect, bring-up, load-page, page-read, read-cache, load-program-data, program-execute, read-page, write-page, erase-block, reading, read, is-bad-block, filling, mark-bad-block, with-config}
 use Rattle.nand_rust.proofs.Pages.{some-page, in-range, page-turns, pages-first, filler-turns, fillers-enough}
 use Rattle.nand_rust.proofs.ReadLoop.{reading-pieces}
 use Rattle.nand_rust.proofs.FillLoop.{filling-loop}
 
 -- so much for a read, by where its bytes go
-abbrev pub taking : ℕ → ℕ → Sink → ℕ
-taking moved fill Sink.Number = moved
-taking moved fill (Sink.Buffer at) = fill
-taking moved fill (Sink.Compare from) = moved
+abbrev pub taking : Figures → Sink → ℕ
+taking x Sink.Number = x .moved
+taking x (Sink.Buffer at) = x .fill
+taking x (Sink.Compare from) = x .moved
 
--- figures for the transfers of the NAND, but for the raise of select
-pub record Weighs (w : Transfer → ℕ) (send moved fill : ℕ) (waits : Operation → ℕ) : Type 0 where
-  pub sent : (c : Command) → w (Transfer.Framed c Body.None) ≤ send
-  pub number : (c : Command) (n : ℕ) → w (Transfer.Framed c (Body.Read n Sink.Number)) ≤ moved
-  pub taken : (q : QuadSetting) (column n : ℕ) (sink : Sink) → w (cacheReadAt q column n sink) ≤ taking moved fill sink
-  pub loaded : (q : QuadSetting) (column : ℕ) (payload : Payload) → w (cacheLoadAt q column payload) ≤ moved
-  pub waited : (operation : Operation) → Bounded w (waits operation) (wait-ready operation)
+-- figures for the transfers of the NAND
+pub record Weighs (w : Transfer → ℕ) (x : Figures) : Type 0 where
+  pub raised : w Transfer.Raise ≤ x .raise
+  pub sent : (c : Command) → w (Transfer.Framed c Body.None) ≤ x .send
+  pub number : (c : Command) (n : ℕ) → w (Transfer.Framed c (Body.Read n Sink.Number)) ≤ x .moved
+  pub taken : (q : QuadSetting) (column n : ℕ) (sink : Sink) → w (cacheReadAt q column n sink) ≤ taking x sink
+  pub loaded : (q : QuadSetting) (column : ℕ) (payload : Payload) → w (cacheLoadAt q column payload) ≤ x .moved
+  pub waited : (operation : Operation) → Bounded w (x .waits operation) (wait-ready operation)
 
-module _ {w : Transfer → ℕ} {send moved fill : ℕ} {waits : Operation → ℕ} (figures : Weighs w send moved fill waits) where
-  -- a command and its wait; write_enable and its look; a register written; a page loaded and its verdict
-  abbrev pub task : Operation → ℕ
-  task operation = send + waits operation
-
-  abbrev pub enabling : ℕ
-  enabling = send + moved
-
-  abbrev pub writing : ℕ
-  writing = enabling + task Operation.WriteRegister
-
-  abbrev pub loading : ℕ
-  loading = task Operation.PageRead + moved
-
+module _ {w : Transfer → ℕ} {x : Figures} (figures : Weighs w x) where
   -- ---- registers
 
-  bounded-send : (c : Command) → Bounded w send (transfer (Transfer.Framed c Body.None))
+  bounded-send : (c : Command) → Bounded w (x .send) (transfer (Transfer.Framed c Body.None))
   bounded-send c = bounded-more (figures .sent c) bounded-transfer
 
-  bounded-number : (c : Command) (n : ℕ) → Bounded w moved (transfer (Transfer.Framed c (Body.Read n Sink.Number)))
+  bounded-number : (c : Command) (n : ℕ) → Bounded w (x .moved) (transfer (Transfer.Framed c (Body.Read n Sink.Number)))
   bounded-number c n = bounded-more (figures .number c n) bounded-transfer
 
-  bounded-register : (register : ℕ) → Bounded w moved (read-register register)
+  bounded-register : (register : ℕ) → Bounded w (x .moved) (read-register register)
   bounded-register register = answered _ (omega arith) (bounded-number _ _)
 
-  pub bounded-status : Bounded w moved read-status
+  pub bounded-status : Bounded w (x .moved) read-status
   unfolding read-status
   bounded-status = answered _ (omega arith) (bounded-register _)
 
-  pub bounded-configuration : Bounded w moved read-configuration
+  pub bounded-configuration : Bounded w (x .moved) read-configuration
   unfolding read-configuration
   bounded-configuration = answered _ (omega arith) (bounded-register _)
 
-  pub bounded-protection : Bounded w moved read-protection
+  pub bounded-protection : Bounded w (x .moved) read-protection
   unfolding read-protection
   bounded-protection = answered _ (omega arith) (bounded-register _)
 
-  pub bounded-enable : Bounded w enabling write-enable
+  pub bounded-enable : Bounded w (enabling x) write-enable
   unfolding write-enable
   bounded-enable = bounded-more (omega arith) (bounded-then (bounded-send _) (bounded-bind bounded-status (λ s. bounded-refuse _ _)))
 
-  pub bounded-write-register : (register value : ℕ) → Bounded w writing (write-register register value)
+  pub bounded-write-register : (register value : ℕ) → Bounded w (writing x) (write-register register value)
   unfolding write-register
   bounded-write-register register value = bounded-then bounded-enable (bounded-then (bounded-send _) (figures .waited Operation.WriteRegister))
 
-  pub bounded-disable-quad : Bounded w (2 * moved + writing) disable-quad
+  pub bounded-disable-quad : Bounded w (configuring x) disable-quad
   unfolding disable-quad
   bounded-disable-quad =
       bounded-more (omega arith)
@@ -95,19 +85,19 @@ module _ {w : Transfer → ℕ} {send moved fill : ℕ} {waits : Operation → �
       (bounded-then (bounded-write-register _ _) (bounded-bind bounded-configuration (λ after. bounded-refuse _ _)))
       bounded-ret))
 
-  pub bounded-reset : Bounded w (task Operation.Reset) reset
+  pub bounded-reset : Bounded w (task x Operation.Reset) reset
   unfolding reset
   bounded-reset = bounded-then (bounded-send _) (figures .waited Operation.Reset)
 
-  pub bounded-jedec-id : Bounded w moved jedec-id
+  pub bounded-jedec-id : Bounded w (x .moved) jedec-id
   unfolding jedec-id
   bounded-jedec-id = answered _ (omega arith) (bounded-number _ _)
 
-  pub bounded-identify : Bounded w (task Operation.Reset + moved) reset-and-identify
+  pub bounded-identify : Bounded w (identifying x) reset-and-identify
   unfolding reset-and-identify
   bounded-identify = bounded-then bounded-reset bounded-jedec-id
 
-  pub bounded-ensure : (config : SpiNandConfig) → Bounded w (2 * moved + writing) (ensure-configuration config)
+  pub bounded-ensure : (config : SpiNandConfig) → Bounded w (configuring x) (ensure-configuration config)
   unfolding ensure-configuration
   bounded-ensure config =
       bounded-more (omega arith)
@@ -118,7 +108,7 @@ module _ {w : Transfer → ℕ} {send moved fill : ℕ} {waits : Operation → �
       bounded-ret)
       bounded-ret))
 
-  pub bounded-unprotect : Bounded w (moved + writing) unprotect
+  pub bounded-unprotect : Bounded w (unprotecting x) unprotect
   unfolding unprotect
   bounded-unprotect =
       bounded-more (omega arith)
@@ -127,66 +117,59 @@ module _ {w : Transfer → ℕ} {send moved fill : ℕ} {waits : Operation → �
 
   -- ---- construction
 
-  abbrev pub bringing : ℕ
-  bringing = task Operation.Reset + moved + (2 * moved + writing) + (moved + writing) + moved
-
-  bounded-bring-up : (config : SpiNandConfig) → Bounded w bringing (bring-up config)
+  bounded-bring-up : (config : SpiNandConfig) → Bounded w (identifying x + configuring x + unprotecting x + x .moved) (bring-up config)
   unfolding bring-up
   bounded-bring-up config =
       bounded-more (omega arith)
       (bounded-bind bounded-identify
       (λ id. bounded-bind (bounded-ensure config)
-      (λ before. bounded-bind bounded-unprotect (λ protection. answered {n = moved} {m = moved} _ (omega arith) bounded-configuration))))
+      (λ before. bounded-bind bounded-unprotect (λ protection. answered {n = x .moved} {m = x .moved} _ (omega arith) bounded-configuration))))
 
-  module _ (raise : ℕ) (raised : w Transfer.Raise ≤ raise) where
-    pub bounded-with-config : (config : SpiNandConfig) → Bounded w (raise + bringing) (with-config config)
-    unfolding with-config
-    bounded-with-config config =
-        bounded-more (omega arith)
-        (bounded-then (bounded-more raised bounded-transfer)
-        (bounded-bind {c = 0} (bounded-bring-up config) (λ init. bounded-guard _ _ (λ e. bounded-ret))))
+  pub bounded-with-config : (config : SpiNandConfig) → Bounded w (constructing x) (with-config config)
+  unfolding with-config
+  bounded-with-config config =
+      bounded-more (omega arith)
+      (bounded-then (bounded-more (figures .raised) bounded-transfer)
+      (bounded-bind {c = 0} (bounded-bring-up config) (λ init. bounded-guard _ _ (λ e. bounded-ret))))
 
-    pub bounded-refused-page : Bounded w (raise + (task Operation.Reset + moved)) refused-page
-    unfolding refused-page
-    bounded-refused-page =
-        bounded-more (omega arith) (bounded-then (bounded-more raised bounded-transfer) (bounded-then {c = 0} bounded-identify bounded-fail))
+  pub bounded-refused-page : Bounded w (x .raise + identifying x) refused-page
+  unfolding refused-page
+  bounded-refused-page =
+      bounded-more (omega arith) (bounded-then (bounded-more (figures .raised) bounded-transfer) (bounded-then {c = 0} bounded-identify bounded-fail))
 
   -- ---- pages
 
-  bounded-load-page : (page : ℕ) → Bounded w (task Operation.PageRead) (load-page page)
+  bounded-load-page : (page : ℕ) → Bounded w (task x Operation.PageRead) (load-page page)
   unfolding load-page
   bounded-load-page page = bounded-then (bounded-send _) (figures .waited Operation.PageRead)
 
   module _ (flash : Setup) where
-    pub bounded-page-read : (page : ℕ) → Bounded w loading (page-read flash page)
+    pub bounded-page-read : (page : ℕ) → Bounded w (loading x) (page-read flash page)
     unfolding page-read
     bounded-page-read page =
         bounded-guard _ _ (λ e. bounded-more (omega arith) (bounded-then (bounded-load-page page) (bounded-bind bounded-status (λ s. bounded-refuse _ _))))
 
-    pub bounded-read-cache : (column n : ℕ) (sink : Sink) → Bounded w (taking moved fill sink) (read-cache flash column n sink)
+    pub bounded-read-cache : (column n : ℕ) (sink : Sink) → Bounded w (taking x sink) (read-cache flash column n sink)
     unfolding read-cache cacheReadTransfer
     bounded-read-cache column n sink = bounded-guard _ _ (λ e. bounded-more (figures .taken (flash .config .quad) column n sink) bounded-transfer)
 
-    pub bounded-load-data : (column n : ℕ) (payload : Payload) → Bounded w moved (load-program-data flash column n payload)
+    pub bounded-load-data : (column n : ℕ) (payload : Payload) → Bounded w (x .moved) (load-program-data flash column n payload)
     unfolding load-program-data cacheLoadTransfer
     bounded-load-data column n payload =
         bounded-guard _ _ (λ e. ended _ (omega arith) (bounded-more (figures .loaded (flash .config .quad) column payload) bounded-transfer))
 
-    abbrev pub programming : ℕ
-    programming = task Operation.Program + moved
-
-    pub bounded-execute : (page : ℕ) → Bounded w programming (program-execute flash page)
+    pub bounded-execute : (page : ℕ) → Bounded w (programming x) (program-execute flash page)
     unfolding program-execute
     bounded-execute page =
         bounded-guard _ _
         (λ e. bounded-more (omega arith)
         (bounded-then (bounded-send _) (bounded-then (figures .waited Operation.Program) (bounded-bind bounded-status (λ s. bounded-refuse _ _)))))
 
-    pub bounded-read-page : (page n : ℕ) (sink : Sink) → Bounded w (loading + taking moved fill sink) (read-page flash page n sink)
+    pub bounded-read-page : (page n : ℕ) (sink : Sink) → Bounded w (loading x + taking x sink) (read-page flash page n sink)
     unfolding read-page
     bounded-read-page page n sink = bounded-guard _ _ (λ e. bounded-then (bounded-page-read page) (bounded-read-cache 0 n sink))
 
-    pub bounded-write-page : (page n : ℕ) → Bounded w (enabling + moved + programming + (loading + moved)) (write-page flash page n)
+    pub bounded-write-page : (page n : ℕ) → Bounded w (enabling x + x .moved + programming x + (loading x + x .moved)) (write-page flash page n)
     unfolding write-page
     bounded-write-page page n =
         bounded-guard _ _
@@ -196,10 +179,7 @@ module _ {w : Transfer → ℕ} {send moved fill : ℕ} {waits : Operation → �
         (bounded-then (bounded-load-data _ _ _)
         (bounded-then (bounded-execute page) (bounded-bind (bounded-read-page page _ (Sink.Compare 0)) (λ same. bounded-refuse _ _)))))))
 
-    abbrev pub erasing : ℕ
-    erasing = enabling + task Operation.Erase + moved
-
-    pub bounded-erase : (block : ℕ) → Bounded w erasing (erase-block flash block)
+    pub bounded-erase : (block : ℕ) → Bounded w (erasing x) (erase-block flash block)
     unfolding erase-block
     bounded-erase block =
         bounded-guard _ _
@@ -208,7 +188,7 @@ module _ {w : Transfer → ℕ} {send moved fill : ℕ} {waits : Operation → �
         (bounded-then (bounded-send _) (bounded-then (figures .waited Operation.Erase) (bounded-bind bounded-status (λ s. bounded-refuse _ _))))))
 
     -- a load and the marker
-    pub bounded-is-bad : (block : ℕ) → Bounded w loading (is-bad-block flash block)
+    pub bounded-is-bad : (block : ℕ) → Bounded w (loading x) (is-bad-block flash block)
     unfolding is-bad-block
     bounded-is-bad block =
         bounded-guard _ _ (λ e. bounded-then (bounded-load-page _) (answered _ (omega arith) (bounded-read-cache (flash .geometry .«page_size») 1 Sink.Number)))
@@ -216,7 +196,7 @@ module _ {w : Transfer → ℕ} {send moved fill : ℕ} {waits : Operation → �
     module _ (bounds : inBounds (flash .geometry) ≡ true) where
       -- ---- read: so much a page
 
-      pub bounded-read : (offset len : ℕ) → Bounded w (pagesTouched (flash .geometry) offset len * (loading + fill)) (read flash offset len)
+      pub bounded-read : (offset len : ℕ) → Bounded w (pagesTouched (flash .geometry) offset len * (loading x + x .fill)) (read flash offset len)
       unfolding read
       bounded-read offset len =
           bounded-guard _ _
@@ -226,13 +206,13 @@ module _ {w : Transfer → ℕ} {send moved fill : ℕ} {waits : Operation → �
 
       -- ---- mark_bad_block
 
-      bounded-filling : Bounded w (fillers (flash .geometry) * moved) (filling flash 0)
+      bounded-filling : Bounded w (fillers (flash .geometry) * x .moved) (filling flash 0)
       bounded-filling =
           bounded-loop (flash .geometry .«page_size») _ _ (filling flash) (filling-loop flash) (filler-turns (flash .geometry) bounds)
           (λ c. bounded-load-data _ _ _) (fillers (flash .geometry)) 0 (fillers-enough (flash .geometry) bounds)
 
       pub bounded-mark : (block : ℕ) →
-          Bounded w (loading + erasing + enabling + fillers (flash .geometry) * moved + moved + programming + loading) (mark-bad-block flash block)
+          Bounded w (marking x (flash .geometry)) (mark-bad-block flash block)
       unfolding mark-bad-block
       bounded-mark block =
           bounded-guard _ _
@@ -244,3 +224,43 @@ module _ {w : Transfer → ℕ} {send moved fill : ℕ} {waits : Operation → �
           (bounded-then bounded-filling
           (bounded-then (bounded-load-data _ _ _)
           (bounded-then (bounded-execute _) (bounded-bind (bounded-is-bad block) (λ marked. bounded-refuse _ _))))))))))
+
+  -- ---- every call
+
+  -- a page that is too large is refused once the id is read
+  pub weighed-construction : (flash : Setup) (config : SpiNandConfig) (b d : ℕ) → Bounded w (constructing x) (programOf flash (Call.WithConfig config) b d)
+  unfolding rustProgram
+  weighed-construction flash config b d =
+      by-cases (pageTaken (config .geometry))
+      (λ e. rw e (answered _ (omega arith) (bounded-with-config config)))
+      (λ e. rw e (bounded-more (omega arith) bounded-refused-page))
+
+  pub weighed : (flash : Setup) → inBounds (flash .geometry) ≡ true → (call : Call) (b d : ℕ) → Bounded w (weightOf x flash call b) (programOf flash call b d)
+  unfolding rustProgram weightOf
+  weighed flash h Call.New b d = answered _ (omega arith) (bounded-with-config singleConfig)
+  weighed flash h (Call.WithConfig config) b d = weighed-construction flash config b d
+  weighed flash h Call.Info b d = bounded-ret
+  weighed flash h Call.Config b d = bounded-ret
+  weighed flash h Call.Geometry b d = bounded-ret
+  weighed flash h Call.Free b d = bounded-ret
+  weighed flash h Call.DisableQuad b d = ended _ (omega arith) bounded-disable-quad
+  weighed flash h (Call.WriteRegister register value) b d = ended _ (omega arith) (bounded-write-register register value)
+  weighed flash h Call.WriteEnable b d = ended _ (omega arith) bounded-enable
+  weighed flash h Call.ReadStatus b d = answered _ (omega arith) bounded-status
+  weighed flash h Call.ReadConfiguration b d = answered _ (omega arith) bounded-configuration
+  weighed flash h Call.ReadProtection b d = answered _ (omega arith) bounded-protection
+  weighed flash h Call.Reset b d = ended _ (omega arith) bounded-reset
+  weighed flash h Call.JedecId b d = answered _ (omega arith) bounded-jedec-id
+  weighed flash h Call.ResetAndIdentify b d = answered _ (omega arith) bounded-identify
+  weighed flash h Call.EnsureConfiguration b d = answered _ (omega arith) (bounded-ensure (flash .config))
+  weighed flash h Call.Unprotect b d = answered _ (omega arith) bounded-unprotect
+  weighed flash h (Call.PageRead page) b d = ended _ (omega arith) (bounded-page-read flash page)
+  weighed flash h (Call.ReadCache column) b d = ended _ (omega arith) (bounded-read-cache flash column b (Sink.Buffer 0))
+  weighed flash h (Call.LoadProgramData column) b d = ended _ (omega arith) (bounded-load-data flash column d (Payload.Data 0 d))
+  weighed flash h (Call.ProgramExecute page) b d = ended _ (omega arith) (bounded-execute flash page)
+  weighed flash h (Call.ReadPage page) b d = ended _ (omega arith) (bounded-read-page flash page b (Sink.Buffer 0))
+  weighed flash h (Call.WritePage page) b d = ended _ (omega arith) (bounded-write-page flash page d)
+  weighed flash h (Call.EraseBlock block) b d = ended _ (omega arith) (bounded-erase flash block)
+  weighed flash h (Call.Read offset) b d = ended _ (omega arith) (bounded-read flash h offset b)
+  weighed flash h (Call.IsBadBlock block) b d = answered _ (omega arith) (bounded-is-bad flash block)
+  weighed flash h (Call.MarkBadBlock block) b d = ended _ (omega arith) (bounded-mark flash h block)

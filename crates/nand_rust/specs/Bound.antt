@@ -59,81 +59,95 @@ delayBound flash (Call.Read offset) b = 400000 * pagesTouched (flash .geometry) 
 delayBound flash (Call.IsBadBlock block) b = 400000
 delayBound flash (Call.MarkBadBlock block) b = markBound (flash .geometry)
 
+-- ---- what a call weighs, by what its parts weigh
+
+-- the loads of filler
+abbrev pub fillers : NandGeometry → ℕ
+fillers g = (g .«page_size» + (FILLER-CHUNK - 1)) / FILLER-CHUNK
+
+-- to raise select; to send a command; to move a number, the caller's data or a page that is compared; to fill the caller's buffer; to wait
+pub record Figures : Type 0 where
+  pub raise : ℕ
+  pub send : ℕ
+  pub moved : ℕ
+  pub fill : ℕ
+  pub waits : Operation → ℕ
+
+module _ (x : Figures) where
+  -- a command and its wait
+  abbrev pub task : Operation → ℕ
+  task operation = x .send + x .waits operation
+
+  -- write_enable and its look
+  abbrev pub enabling : ℕ
+  enabling = x .send + x .moved
+
+  abbrev pub writing : ℕ
+  writing = enabling + task Operation.WriteRegister
+
+  abbrev pub identifying : ℕ
+  identifying = task Operation.Reset + x .moved
+
+  abbrev pub configuring : ℕ
+  configuring = 2 * x .moved + writing
+
+  abbrev pub unprotecting : ℕ
+  unprotecting = x .moved + writing
+
+  abbrev pub constructing : ℕ
+  constructing = x .raise + (identifying + configuring + unprotecting + x .moved)
+
+  -- a load, and its verdict or the marker
+  abbrev pub loading : ℕ
+  loading = task Operation.PageRead + x .moved
+
+  abbrev pub programming : ℕ
+  programming = task Operation.Program + x .moved
+
+  abbrev pub erasing : ℕ
+  erasing = enabling + task Operation.Erase + x .moved
+
+  abbrev pub marking : NandGeometry → ℕ
+  marking g = loading + erasing + enabling + fillers g * x .moved + x .moved + programming + loading
+
+  -- the call, with a buffer of b bytes
+  unfoldable pub weightOf : Setup → Call → ℕ → ℕ
+  weightOf flash Call.New b = constructing
+  weightOf flash (Call.WithConfig config) b = constructing
+  weightOf flash Call.Info b = 0
+  weightOf flash Call.Config b = 0
+  weightOf flash Call.Geometry b = 0
+  weightOf flash Call.Free b = 0
+  weightOf flash Call.DisableQuad b = configuring
+  weightOf flash (Call.WriteRegister register value) b = writing
+  weightOf flash Call.WriteEnable b = enabling
+  weightOf flash Call.ReadStatus b = x .moved
+  weightOf flash Call.ReadConfiguration b = x .moved
+  weightOf flash Call.ReadProtection b = x .moved
+  weightOf flash Call.Reset b = task Operation.Reset
+  weightOf flash Call.JedecId b = x .moved
+  weightOf flash Call.ResetAndIdentify b = identifying
+  weightOf flash Call.EnsureConfiguration b = configuring
+  weightOf flash Call.Unprotect b = unprotecting
+  weightOf flash (Call.PageRead page) b = loading
+  weightOf flash (Call.ReadCache column) b = x .fill
+  weightOf flash (Call.LoadProgramData column) b = x .moved
+  weightOf flash (Call.ProgramExecute page) b = programming
+  weightOf flash (Call.ReadPage page) b = loading + x .fill
+  weightOf flash (Call.WritePage page) b = enabling + x .moved + programming + (loading + x .moved)
+  weightOf flash (Call.EraseBlock block) b = erasing
+  weightOf flash (Call.Read offset) b = pagesTouched (flash .geometry) offset b * (loading + x .fill)
+  weightOf flash (Call.IsBadBlock block) b = loading
+  weightOf flash (Call.MarkBadBlock block) b = marking (flash .geometry)
+
 -- ---- actions: 1 to raise select or to delay, 3 to send a command, 4 at most for a transfer with data
 
 -- the first delay, and looks of 4 actions with a delay behind every look but the last
 abbrev pub waitActions : Operation → ℕ
 waitActions operation = 1 + 5 * looksOf operation
 
--- a command and its wait
-abbrev pub taskActions : Operation → ℕ
-taskActions operation = 3 + waitActions operation
+abbrev pub actionFigures : Figures
+actionFigures = record { raise = 1; send = 3; moved = 4; fill = 4; waits = waitActions }
 
--- write_enable and its look
-abbrev pub enableActions : ℕ
-enableActions = 3 + 4
-
-abbrev pub registerActions : ℕ
-registerActions = enableActions + taskActions Operation.WriteRegister
-
-abbrev pub identifyActions : ℕ
-identifyActions = taskActions Operation.Reset + 4
-
-abbrev pub configureActions : ℕ
-configureActions = 2 * 4 + registerActions
-
-abbrev pub unprotectActions : ℕ
-unprotectActions = 4 + registerActions
-
-abbrev pub constructionActions : ℕ
-constructionActions = 1 + identifyActions + configureActions + unprotectActions + 4
-
--- a load and its verdict; a load and the marker
-abbrev pub pageReadActions : ℕ
-pageReadActions = taskActions Operation.PageRead + 4
-
-abbrev pub markerActions : ℕ
-markerActions = taskActions Operation.PageRead + 4
-
-abbrev pub programActions : ℕ
-programActions = taskActions Operation.Program + 4
-
-abbrev pub eraseActions : ℕ
-eraseActions = enableActions + taskActions Operation.Erase + 4
-
--- the loads of filler
-abbrev pub fillers : NandGeometry → ℕ
-fillers g = (g .«page_size» + (FILLER-CHUNK - 1)) / FILLER-CHUNK
-
-abbrev pub markActions : NandGeometry → ℕ
-markActions g = markerActions + eraseActions + enableActions + 4 * fillers g + 4 + programActions + markerActions
-
--- the call, with a buffer of b bytes
-unfoldable pub actionBound : Setup → Call → ℕ → ℕ
-actionBound flash Call.New b = constructionActions
-actionBound flash (Call.WithConfig config) b = constructionActions
-actionBound flash Call.Info b = 0
-actionBound flash Call.Config b = 0
-actionBound flash Call.Geometry b = 0
-actionBound flash Call.Free b = 0
-actionBound flash Call.DisableQuad b = 2 * 4 + registerActions
-actionBound flash (Call.WriteRegister register value) b = registerActions
-actionBound flash Call.WriteEnable b = enableActions
-actionBound flash Call.ReadStatus b = 4
-actionBound flash Call.ReadConfiguration b = 4
-actionBound flash Call.ReadProtection b = 4
-actionBound flash Call.Reset b = taskActions Operation.Reset
-actionBound flash Call.JedecId b = 4
-actionBound flash Call.ResetAndIdentify b = identifyActions
-actionBound flash Call.EnsureConfiguration b = configureActions
-actionBound flash Call.Unprotect b = unprotectActions
-actionBound flash (Call.PageRead page) b = pageReadActions
-actionBound flash (Call.ReadCache column) b = 4
-actionBound flash (Call.LoadProgramData column) b = 4
-actionBound flash (Call.ProgramExecute page) b = programActions
-actionBound flash (Call.ReadPage page) b = pageReadActions + 4
-actionBound flash (Call.WritePage page) b = enableActions + 4 + programActions + (pageReadActions + 4)
-actionBound flash (Call.EraseBlock block) b = eraseActions
-actionBound flash (Call.Read offset) b = (pageReadActions + 4) * pagesTouched (flash .geometry) offset b
-actionBound flash (Call.IsBadBlock block) b = markerActions
-actionBound flash (Call.MarkBadBlock block) b = markActions (flash .geometry)
+abbrev pub actionBound : Setup → Call → ℕ → ℕ
+actionBound = weightOf actionFigures

@@ -13,34 +13,34 @@ use Rattle.qspi.proofs.Cases.{by-cases}
 use Rattle.flash_runs.specs.Driver.{takesOf}
 use Rattle.flash_runs.proofs.Filling.{Fills}
 use Rattle.flash_runs.proofs.Supplies.{Bounds, LendsAs}
-use Rattle.spi_flash.proofs.Laws.{bounded-more, bounded-ret, answered, ended}
+use Rattle.spi_flash.proofs.Laws.{bounded-more}
 use Rattle.spi_flash.proofs.Unread.{bufferReads, unread-wait}
 use Rattle.spi_nor.specs.Opcode.{timingsOf}
 use Rattle.spi_nor.specs.Command.{readStatus1Command}
-use Rattle.spi_nor.specs.Config.{singleConfig}
 use Rattle.spi_nor.specs.declared.config.NorDeviceInfo.{NorDeviceInfo}
 use Rattle.spi_nor.specs.declared.config.QuadSetting.{QuadSetting}
-use Rattle.spi_nor.specs.declared.config.SpiNorConfig.{SpiNorConfig}
 use Rattle.spi_nor.specs.declared.opcode.Operation.{Operation}
-use Rattle.spi_nor.proofs.DeviceBounds.{deviceBounds}
 use Rattle.nor_phases.specs.Transfer.{placeOf, chunkOf, readAt, readTransfer, programAt, inRange, stepKind, afterUnit}
 use Rattle.nor_phases.proofs.Pieces.{chunk-within}
 use Rattle.nor_answers.specs.declared.answer.Answer.{Answer}
-use Rattle.nor_phases.specs.declared.phase.EraseKind.{EraseKind}
 use Rattle.nor_phases.specs.declared.setup.Setup.{Setup}
 use Rattle.nor_phases.specs.declared.call.Call.{Call}
-use Rattle.nor_runs.specs.Rust.{busyValue, wait-ready, reading, read, with-config}
+use Rattle.nor_runs.specs.Rust.{busyValue, wait-ready, reading, read}
 use Rattle.nor_runs.specs.Program.{Left, leaving, programOf}
-use Rattle.nor_runs.specs.Bound.{pageTaken, eraseSum}
+use Rattle.nor_runs.specs.Bound.{pageTaken, eraseSum, Figures, quadWeight, weightOf}
 use Rattle.nor_runs.specs.Run.{sortOf, norDriver}
 use Rattle.nor_runs.proofs.Loops.{chunk-some, reading-loop}
-use Rattle.nor_runs.proofs.Weights.{Weighs, bounded-status1, bounded-status2, bounded-is-busy, bounded-jedec-id, bounded-unique-id, bounded-quad-enabled, bounded-enable-quad, bounded-disable-quad, bounded-unprotect, bounded-write, bounded-unit, bounded-erase, bounded-with-config}
+use Rattle.nor_runs.proofs.Weights.{Weighs, weighed}
 
 -- ---- no call but read puts anything into the caller's buffer
 
-unread-figures : Weighs bufferReads 0 0 1 (λ operation. 0)
+abbrev readFigures : Figures
+readFigures = record { raise = 0; send = 0; moved = 0; fill = 1; waits = λ operation. 0 }
+
+unread-figures : Weighs bufferReads readFigures
 unfolding wait-ready
 unread-figures = record {
+  raised = omega arith;
   sent = λ c. omega arith;
   number = λ c n. omega arith;
   filled = filled;
@@ -74,12 +74,13 @@ no-sum device (suc n) address to = at (ltb address to) (no-sum device n (afterUn
     at true h = omega arith
     at false h = omega arith
 
-constructed : (config : SpiNorConfig) → Bounded bufferReads 0 (with-config config)
-constructed config = bounded-more (none (pageTaken (config .device))) (bounded-with-config unread-figures (λ q. 0) (λ q. omega arith) config 0 (omega arith))
-  where
-    none : (b : Bool) → 0 + 0 + pick b 0 0 ≤ 0
-    none true = omega arith
-    none false = omega arith
+no-construction : (taken : Bool) (q : QuadSetting) → 0 + 0 + pick taken (quadWeight readFigures q) 0 ≤ 0
+no-construction true QuadSetting.Single = omega arith
+no-construction true (QuadSetting.Quad q) = omega arith
+no-construction false q = omega arith
+
+unread : (flash : Setup) (call : Call) (b d : ℕ) → Bounds norDriver flash call b d → weightOf readFigures flash call b d ≤ 0 → Bounded bufferReads 0 (programOf flash call b d)
+unread flash call b d h none = bounded-more none (weighed unread-figures flash call b d h)
 
 -- ---- read fills the buffer, place after place
 
@@ -116,26 +117,24 @@ module _ (flash : Setup) (offset len : ℕ) (left : Left) where
 -- ---- every call
 
 pub lent : (flash : Setup) (call : Call) (b d : ℕ) → Bounds norDriver flash call b d → LendsAs norDriver flash call b d (takesOf (sortOf call b d))
-unfolding programOf
-lent flash Call.New b d h = answered _ (omega arith) (constructed singleConfig)
-lent flash (Call.WithConfig config) b d h = answered _ (omega arith) (constructed config)
-lent flash Call.Config b d h = bounded-ret
-lent flash Call.Device b d h = bounded-ret
-lent flash Call.Id b d h = bounded-ret
-lent flash Call.Free b d h = bounded-ret
-lent flash Call.ReadStatus1 b d h = answered _ (omega arith) (bounded-status1 unread-figures)
-lent flash Call.ReadStatus2 b d h = answered _ (omega arith) (bounded-status2 unread-figures)
-lent flash Call.IsBusy b d h = answered _ (omega arith) (bounded-is-busy unread-figures)
-lent flash Call.JedecId b d h = answered _ (omega arith) (bounded-jedec-id unread-figures)
-lent flash Call.UniqueId b d h = answered _ (omega arith) (bounded-unique-id unread-figures)
-lent flash Call.QuadEnabled b d h = answered _ (omega arith) (bounded-quad-enabled unread-figures)
-lent flash Call.EnableQuad b d h = ended _ (omega arith) (bounded-enable-quad unread-figures)
-lent flash Call.DisableQuad b d h = ended _ (omega arith) (bounded-disable-quad unread-figures)
+unfolding programOf weightOf
+lent flash Call.New b d h = unread flash Call.New b d h (omega arith)
+lent flash (Call.WithConfig config) b d h = unread flash (Call.WithConfig config) b d h (no-construction (pageTaken (config .device)) (config .quad))
+lent flash Call.Config b d h = unread flash Call.Config b d h (omega arith)
+lent flash Call.Device b d h = unread flash Call.Device b d h (omega arith)
+lent flash Call.Id b d h = unread flash Call.Id b d h (omega arith)
+lent flash Call.Free b d h = unread flash Call.Free b d h (omega arith)
+lent flash Call.ReadStatus1 b d h = unread flash Call.ReadStatus1 b d h (omega arith)
+lent flash Call.ReadStatus2 b d h = unread flash Call.ReadStatus2 b d h (omega arith)
+lent flash Call.IsBusy b d h = unread flash Call.IsBusy b d h (omega arith)
+lent flash Call.JedecId b d h = unread flash Call.JedecId b d h (omega arith)
+lent flash Call.UniqueId b d h = unread flash Call.UniqueId b d h (omega arith)
+lent flash Call.QuadEnabled b d h = unread flash Call.QuadEnabled b d h (omega arith)
+lent flash Call.EnableQuad b d h = unread flash Call.EnableQuad b d h (omega arith)
+lent flash Call.DisableQuad b d h = unread flash Call.DisableQuad b d h (omega arith)
 lent flash (Call.Read offset) b d h = (refl, fills-read flash offset b (leaving flash Answer.Done))
-lent flash (Call.Write offset) b d h =
-    ended _ (omega arith) (bounded-write unread-figures flash (deviceBounds .accepted (flash .device) h .leastPage) offset d)
-lent flash Call.Unprotect b d h = answered _ (omega arith) (bounded-unprotect unread-figures)
-lent flash (Call.Erase from to) b d h =
-    ended _ (no-sum (flash .device) (to - from) from to) (bounded-erase unread-figures flash (λ kind. 0) (λ kind. omega arith) from to)
-lent flash (Call.EraseSector offset) b d h = ended _ (omega arith) (bounded-unit unread-figures flash EraseKind.Sector offset)
-lent flash (Call.EraseBlock offset) b d h = ended _ (omega arith) (bounded-unit unread-figures flash EraseKind.Block offset)
+lent flash (Call.Write offset) b d h = unread flash (Call.Write offset) b d h (omega arith)
+lent flash Call.Unprotect b d h = unread flash Call.Unprotect b d h (omega arith)
+lent flash (Call.Erase from to) b d h = unread flash (Call.Erase from to) b d h (no-sum (flash .device) (to - from) from to)
+lent flash (Call.EraseSector offset) b d h = unread flash (Call.EraseSector offset) b d h (omega arith)
+lent flash (Call.EraseBlock offset) b d h = unread flash (Call.EraseBlock offset) b d h (omega arith)

@@ -3,6 +3,7 @@ use Prim.Native.Nat.{ℕ, zero, suc, _+_, _*_, _-_, _/_}
 use mathlib.Core.Bool.{Bool, true}
 use lib.Dec.{ltb, leb}
 use Rattle.qspi.specs.Choice.{pick}
+use Rattle.spi_nor.specs.Config.{singleConfig}
 use Rattle.spi_nor.specs.Opcode.{MAX-BULK-LEN}
 use Rattle.nor_phases.specs.Transfer.{eraseOperation, stepKind, afterUnit}
 use Rattle.spi_nor.specs.WaitTable.{looksOf}
@@ -63,50 +64,74 @@ delayBound flash (Call.Erase from to) d = eraseSum unitBound (flash .device) (to
 delayBound flash (Call.EraseSector offset) d = 1000000
 delayBound flash (Call.EraseBlock offset) d = 5000000
 
+-- ---- what a call weighs, by what its parts weigh
+
+-- the pieces of a read
+abbrev pub pieces : ℕ → ℕ
+pieces len = (len + (MAX-BULK-LEN - 1)) / MAX-BULK-LEN
+
+-- to raise select; to send a command; to move a number, the caller's data or a page that is compared; to fill the caller's buffer; to wait
+pub record Figures : Type 0 where
+  pub raise : ℕ
+  pub send : ℕ
+  pub moved : ℕ
+  pub fill : ℕ
+  pub waits : Operation → ℕ
+
+module _ (x : Figures) where
+  -- write_enable and its look, a command, a wait
+  abbrev pub task : Operation → ℕ
+  task operation = x .send + x .moved + x .send + x .waits operation
+
+  abbrev pub unit : EraseKind → ℕ
+  unit kind = task (eraseOperation kind)
+
+  -- page_program, with its read-back
+  abbrev pub paged : ℕ
+  paged = x .send + x .moved + x .moved + x .waits Operation.PageProgram + x .moved
+
+  -- six status reads and two register writes
+  abbrev pub enablingQuad : ℕ
+  enablingQuad = 6 * x .moved + 2 * task Operation.StatusWrite
+
+  abbrev pub quadWeight : QuadSetting → ℕ
+  quadWeight QuadSetting.Single = 0
+  quadWeight (QuadSetting.Quad q) = enablingQuad
+
+  abbrev pub constructing : SpiNorConfig → ℕ
+  constructing config = x .raise + x .moved + pick (pageTaken (config .device)) (quadWeight (config .quad)) 0
+
+  -- the call, with a buffer of b bytes and data of d bytes
+  unfoldable pub weightOf : Setup → Call → ℕ → ℕ → ℕ
+  weightOf flash Call.New b d = constructing singleConfig
+  weightOf flash (Call.WithConfig config) b d = constructing config
+  weightOf flash Call.Config b d = 0
+  weightOf flash Call.Device b d = 0
+  weightOf flash Call.Id b d = 0
+  weightOf flash Call.Free b d = 0
+  weightOf flash Call.ReadStatus1 b d = x .moved
+  weightOf flash Call.ReadStatus2 b d = x .moved
+  weightOf flash Call.IsBusy b d = x .moved
+  weightOf flash Call.JedecId b d = x .moved
+  weightOf flash Call.UniqueId b d = x .moved
+  weightOf flash Call.QuadEnabled b d = 2 * x .moved
+  weightOf flash Call.EnableQuad b d = enablingQuad
+  weightOf flash Call.DisableQuad b d = 3 * x .moved + task Operation.StatusWrite
+  weightOf flash (Call.Read offset) b d = pieces b * x .fill
+  weightOf flash (Call.Write offset) b d = d / flash .device .«page_size» * paged
+  weightOf flash Call.Unprotect b d = 3 * x .moved + 2 * task Operation.StatusWrite
+  weightOf flash (Call.Erase from to) b d = eraseSum unit (flash .device) (to - from) from to
+  weightOf flash (Call.EraseSector offset) b d = unit EraseKind.Sector
+  weightOf flash (Call.EraseBlock offset) b d = unit EraseKind.Block
+
 -- ---- actions: 1 to raise select or to delay, 3 to send a command, 4 at most for a transfer with data
 
 -- a look has 4 actions, and a delay comes behind every look but the last
 abbrev pub waitActions : Operation → ℕ
 waitActions operation = 5 * looksOf operation
 
--- write_enable, the command, the wait
-abbrev pub taskActions : Operation → ℕ
-taskActions operation = 7 + 4 + waitActions operation
+abbrev pub actionFigures : Figures
+actionFigures = record { raise = 1; send = 3; moved = 4; fill = 4; waits = waitActions }
 
-abbrev pub unitActions : EraseKind → ℕ
-unitActions kind = taskActions (eraseOperation kind)
-
--- six status reads and two register writes
-abbrev pub enableActions : ℕ
-enableActions = 6 * 4 + 2 * taskActions Operation.StatusWrite
-
-abbrev pub quadActions : QuadSetting → ℕ
-quadActions QuadSetting.Single = 0
-quadActions (QuadSetting.Quad q) = enableActions
-
--- the pieces of a read
-abbrev pub pieces : ℕ → ℕ
-pieces len = (len + (MAX-BULK-LEN - 1)) / MAX-BULK-LEN
-
--- the call, with a buffer of b bytes and data of d bytes
-unfoldable pub actionBound : Setup → Call → ℕ → ℕ → ℕ
-actionBound flash Call.New b d = 1 + 4
-actionBound flash (Call.WithConfig config) b d = 1 + 4 + quadActions (config .quad)
-actionBound flash Call.Config b d = 0
-actionBound flash Call.Device b d = 0
-actionBound flash Call.Id b d = 0
-actionBound flash Call.Free b d = 0
-actionBound flash Call.ReadStatus1 b d = 4
-actionBound flash Call.ReadStatus2 b d = 4
-actionBound flash Call.IsBusy b d = 4
-actionBound flash Call.JedecId b d = 4
-actionBound flash Call.UniqueId b d = 4
-actionBound flash Call.QuadEnabled b d = 2 * 4
-actionBound flash Call.EnableQuad b d = enableActions
-actionBound flash Call.DisableQuad b d = 3 * 4 + taskActions Operation.StatusWrite
-actionBound flash (Call.Read offset) b d = 4 * pieces b
-actionBound flash (Call.Write offset) b d = (taskActions Operation.PageProgram + 4) * (d / flash .device .«page_size»)
-actionBound flash Call.Unprotect b d = 3 * 4 + 2 * taskActions Operation.StatusWrite
-actionBound flash (Call.Erase from to) b d = eraseSum unitActions (flash .device) (to - from) from to
-actionBound flash (Call.EraseSector offset) b d = unitActions EraseKind.Sector
-actionBound flash (Call.EraseBlock offset) b d = unitActions EraseKind.Block
+abbrev pub actionBound : Setup → Call → ℕ → ℕ → ℕ
+actionBound = weightOf actionFigures

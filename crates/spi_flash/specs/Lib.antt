@@ -4,6 +4,7 @@ pub mod Loan
 pub mod Entry
 pub mod Wait
 pub mod Shape
+pub mod Ending
 pub mod Settling
 pub mod Beginning
 pub mod Replying

@@ -12,7 +12,7 @@ use Rattle.spi_flash.specs.Loan.{Lent, readyFor, exchangeFor}
 use Rattle.spi_flash.specs.Machine.{lentAs}
 use Rattle.spi_flash.specs.declared.loan.Takes.{Takes}
 use Rattle.flash_runs.proofs.General as General
-use Rattle.flash_runs.proofs.General.{Then, Parts, Job, Running, idle, busy, Flash, settled, exchanged, proceeds, answerAt}
+use Rattle.flash_runs.proofs.General.{Then, Parts, Job, Running, idle, busy, Flash, settled, exchanged, answerAt}
 use Rattle.tape_runs.specs.Player.{awaitedIn}
 use Rattle.tape_runs.proofs.Laws.{Unrefused, Heard, Hears}
 
