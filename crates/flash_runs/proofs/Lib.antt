@@ -3,6 +3,7 @@ pub mod Filling
 pub mod Quiet
 pub mod Buffer
 pub mod Supplies
+pub mod Weighing
 pub mod Shapes
 pub mod Asking
 pub mod Steps

@@ -1,5 +1,6 @@
 pub mod Driver
 pub mod System
+pub mod Weight
 pub mod Reading
 pub mod SameAsRust
 pub mod Refusals

@@ -5,7 +5,6 @@ use mathlib.Core.Bool.{true, not}
 use mathlib.Core.Path.{_≡_, refl}
 use lib.Dec.{ltb, eqb}
 use borrow.Author.Tests.{ltb-true, le-ltb}
-use Rattle.qspi.specs.declared.transfer.Payload.{Payload}
 use Rattle.qspi.specs.declared.transfer.Sink.{Sink}
 use Rattle.qspi.proofs.Cases.{by-cases}
 use Rattle.spi_flash.specs.Path.{Bounded}
@@ -17,6 +16,7 @@ use Rattle.flash_runs.specs.Driver.{takesOf}
 use Rattle.flash_runs.proofs.Filling.{Fills}
 use Rattle.flash_runs.proofs.Quiet.{Quiet, quiet-bind, quiet-then, quiet-refuse, quiet-ret, quiet-transfer, quiet-wait, fills-after}
 use Rattle.flash_runs.proofs.Supplies.{Bounds, LendsAs}
+use Rattle.flash_runs.proofs.Weighing.{Weighs, readFigures, reads-weigh}
 use Rattle.spi_nand.specs.Command.{getFeatureCommand}
 use Rattle.spi_nand.specs.Config.{inBounds, pageCountOf, singleConfig}
 use Rattle.spi_nand.specs.Opcode.{REG-STATUS, timingsOf}
@@ -24,7 +24,7 @@ use Rattle.spi_nand.specs.Status.{busyValue, verdictOf}
 use Rattle.spi_nand.specs.declared.config.QuadSetting.{QuadSetting}
 use Rattle.spi_nand.specs.declared.opcode.Operation.{Operation}
 use Rattle.spi_nand.proofs.Geometries.{geometries-hold}
-use Rattle.nand_phases.specs.Transfer.{cacheReadAt, cacheReadTransfer, cacheLoadAt, inCache, inRange, placeOf, pageAt, columnAt, chunkOf}
+use Rattle.nand_phases.specs.Transfer.{cacheReadAt, cacheReadTransfer, inCache, inRange, placeOf, pageAt, columnAt, chunkOf}
 use Rattle.nand_phases.proofs.Pieces.{chunk-within}
 use Rattle.nand_phases.specs.declared.call.Call.{Call}
 use Rattle.nand_phases.specs.declared.setup.Setup.{Setup}
@@ -32,39 +32,17 @@ use Rattle.nand_rust.specs.Rust.{uncorrectable, read-status, wait-ready, load-p
 use Rattle.nand_rust.specs.Observer.{readsCache}
 use Rattle.nand_rust.specs.Program.{Left, rustProgram, programOf}
 use Rattle.nand_rust.proofs.ReadLoop.{chunk-some, reading-loop}
-use Rattle.nand_rust.specs.Bound.{Figures, weightOf}
-use Rattle.nand_rust.proofs.Weights.{taking, Weighs, bounded-with-config, weighed-construction, weighed}
+use Rattle.nand_rust.specs.Bound.{weightOf}
+use Rattle.nand_rust.proofs.Weights.{bounded-with-config, weighed-construction, weighed}
 use Rattle.nand_runs.specs.Run.{sortOf, nandDriver}
 use Rattle.nand_runs.proofs.Meaning.{DONE}
 use Rattle.nand_runs.proofs.Simulation.{bind-assoc}
 
 -- ---- no other call reads into the buffer
 
-abbrev readFigures : Figures
-readFigures = record { raise = 0; send = 0; moved = 0; fill = 1; waits = λ operation. 0 }
-
-unread-figures : Weighs bufferReads readFigures
+unread-figures : Weighs bufferReads readFigures wait-ready
 unfolding wait-ready
-unread-figures = record {
-  raised = omega arith;
-  sent = λ c. omega arith;
-  number = λ c n. omega arith;
-  taken = taken;
-  loaded = loaded;
-  waited = λ operation. unread-delayed (getFeatureCommand REG-STATUS) busyValue (timingsOf operation);
-}
-  where
-    taken : (q : QuadSetting) (column n : ℕ) (sink : Sink) → bufferReads (cacheReadAt q column n sink) ≤ taking readFigures sink
-    taken QuadSetting.Single column n Sink.Number = omega arith
-    taken QuadSetting.Single column n (Sink.Buffer at) = omega arith
-    taken QuadSetting.Single column n (Sink.Compare from) = omega arith
-    taken (QuadSetting.Quad q) column n Sink.Number = omega arith
-    taken (QuadSetting.Quad q) column n (Sink.Buffer at) = omega arith
-    taken (QuadSetting.Quad q) column n (Sink.Compare from) = omega arith
-
-    loaded : (q : QuadSetting) (column : ℕ) (payload : Payload) → bufferReads (cacheLoadAt q column payload) ≤ 0
-    loaded QuadSetting.Single column payload = omega arith
-    loaded (QuadSetting.Quad q) column payload = omega arith
+unread-figures = reads-weigh wait-ready (λ operation. unread-delayed (getFeatureCommand REG-STATUS) busyValue (timingsOf operation))
 
 unread : (s : Setup) → inBounds (s .geometry) ≡ true → (c : Call) (b d : ℕ) → weightOf readFigures s c b ≤ 0 → Bounded bufferReads 0 (programOf s c b d)
 unread s h c b d none = bounded-more none (weighed unread-figures s h c b d)

@@ -6,39 +6,31 @@ use mathlib.Core.Path.{_≡_, ap}
 use lib.Dec.{eqb}
 use borrow.Author.Tests.{eqb-true}
 use Rattle.qspi.proofs.Cases.{by-cases}
-use Rattle.qspi.specs.declared.transfer.Payload.{Payload}
 use Rattle.qspi.specs.declared.transfer.Sink.{Sink}
 use Rattle.spi_flash.specs.Path.{delays, actions, Bounded, Never}
 use Rattle.spi_flash.proofs.Laws.{bounded-more, bounded-guard, bounded-never, never-left, never-then, never-refused, answered, ended}
+use Rattle.flash_runs.specs.Weight.{Figures}
+use Rattle.flash_runs.proofs.Weighing.{Weighs, delayFigures, delays-weigh, actions-weigh}
 use Rattle.spi_nand.specs.Config.{inBounds}
+use Rattle.spi_nand.specs.declared.opcode.Operation.{Operation}
 use Rattle.spi_nand.specs.WaitTable.{largestOf}
-use Rattle.spi_nand.specs.declared.config.QuadSetting.{QuadSetting}
 use Rattle.spi_nand.specs.declared.config.SpiNandConfig.{SpiNandConfig}
-use Rattle.nand_phases.specs.Transfer.{cacheReadAt, cacheLoadAt}
 use Rattle.nand_phases.specs.declared.call.Call.{Call}
 use Rattle.nand_phases.specs.declared.setup.Setup.{Setup}
-use Rattle.nand_rust.specs.Rust.{read-cache, is-bad-block, mark-bad-block}
+use Rattle.nand_rust.specs.Rust.{wait-ready, read-cache, is-bad-block, mark-bad-block}
 use Rattle.nand_rust.specs.Program.{pageTaken, rustProgram, programOf}
-use Rattle.nand_rust.specs.Bound.{constructionBound, markBound, delayBound, Figures, weightOf, actionFigures, actionBound}
+use Rattle.nand_rust.specs.Bound.{constructionBound, markBound, delayBound, weightOf, waitActions, actionBound}
 use Rattle.nand_rust.proofs.Pages.{no-marker}
 use Rattle.nand_rust.proofs.Waits.{wait-delays, wait-actions}
-use Rattle.nand_rust.proofs.Weights.{taking, Weighs, bounded-with-config, bounded-refused-page, bounded-is-bad, bounded-mark, weighed}
+use Rattle.nand_rust.proofs.Weights.{bounded-with-config, bounded-refused-page, bounded-is-bad, bounded-mark, weighed}
 
 -- ---- the delays
 
-abbrev delayFigures : Figures
-delayFigures = record { raise = 0; send = 0; moved = 0; fill = 0; waits = largestOf }
+abbrev asked : Figures Operation
+asked = delayFigures largestOf
 
-delay-figures : Weighs delays delayFigures
-delay-figures = record { raised = omega arith; sent = λ c. omega arith; number = λ c n. omega arith; taken = taken; loaded = loaded; waited = wait-delays }
-  where
-    taken : (q : QuadSetting) (column n : ℕ) (sink : Sink) → delays (cacheReadAt q column n sink) ≤ taking delayFigures sink
-    taken QuadSetting.Single column n sink = omega arith
-    taken (QuadSetting.Quad q) column n sink = omega arith
-
-    loaded : (q : QuadSetting) (column : ℕ) (payload : Payload) → delays (cacheLoadAt q column payload) ≤ 0
-    loaded QuadSetting.Single column payload = omega arith
-    loaded (QuadSetting.Quad q) column payload = omega arith
+delay-figures : Weighs delays asked wait-ready
+delay-figures = delays-weigh wait-ready largestOf wait-delays
 
 module _ (flash : Setup) (bounds : inBounds (flash .geometry) ≡ true) where
   -- without spare bytes there is no marker to read, so is_bad_block comes to no answer
@@ -65,7 +57,7 @@ bounded-construction flash h config b d =
     (λ e. rw e (answered _ (omega arith) (bounded-with-config delay-figures config)))
     (λ e. rw e (bounded-more (omega arith) (bounded-refused-page delay-figures)))
 
-within : (flash : Setup) → inBounds (flash .geometry) ≡ true → (call : Call) (b d : ℕ) → weightOf delayFigures flash call b ≤ delayBound flash call b → Bounded delays (delayBound flash call b) (programOf flash call b d)
+within : (flash : Setup) → inBounds (flash .geometry) ≡ true → (call : Call) (b d : ℕ) → weightOf asked flash call b ≤ delayBound flash call b → Bounded delays (delayBound flash call b) (programOf flash call b d)
 within flash h call b d e = bounded-more e (weighed delay-figures flash h call b d)
 
 pub bounded : (flash : Setup) → inBounds (flash .geometry) ≡ true → (call : Call) (b d : ℕ) → Bounded delays (delayBound flash call b) (programOf flash call b d)
@@ -100,21 +92,5 @@ bounded flash h (Call.MarkBadBlock block) b d = ended _ (omega arith) (bounded-m
 
 -- ---- the actions
 
-action-figures : Weighs actions actionFigures
-action-figures = record { raised = omega arith; sent = λ c. omega arith; number = λ c n. omega arith; taken = taken; loaded = loaded; waited = wait-actions }
-  where
-    four : (sink : Sink) → taking actionFigures sink ≡ 4
-    four Sink.Number = omega arith
-    four (Sink.Buffer at) = omega arith
-    four (Sink.Compare from) = omega arith
-
-    taken : (q : QuadSetting) (column n : ℕ) (sink : Sink) → actions (cacheReadAt q column n sink) ≤ taking actionFigures sink
-    taken QuadSetting.Single column n sink = omega (arith, four sink)
-    taken (QuadSetting.Quad q) column n sink = omega (arith, four sink)
-
-    loaded : (q : QuadSetting) (column : ℕ) (payload : Payload) → actions (cacheLoadAt q column payload) ≤ 4
-    loaded QuadSetting.Single column payload = omega arith
-    loaded (QuadSetting.Quad q) column payload = omega arith
-
 pub acts : (flash : Setup) → inBounds (flash .geometry) ≡ true → (call : Call) (b d : ℕ) → Bounded actions (actionBound flash call b) (programOf flash call b d)
-acts = weighed action-figures
+acts = weighed (actions-weigh wait-ready waitActions wait-actions)

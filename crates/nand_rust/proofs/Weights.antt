@@ -13,6 +13,8 @@ use Rattle.spi_flash.specs.Prog.{transfer}
 use Rattle.spi_flash.specs.Path.{Bounded}
 use Rattle.spi_flash.proofs.Laws.{bounded-more, bounded-ret, bounded-fail, bounded-bind, bounded-then, bounded-refuse, bounded-if, bounded-transfer, bounded-guard, answered, ended}
 use Rattle.spi_flash.proofs.Loops.{bounded-loop}
+use Rattle.flash_runs.specs.Weight.{Figures}
+use Rattle.flash_runs.proofs.Weighing.{sunk, Weighs}
 use Rattle.qspi.proofs.Cases.{by-cases}
 use Rattle.spi_nand.specs.Config.{singleConfig, inBounds}
 use Rattle.spi_nand.specs.Status.{quadEnabledOf, sameConfiguration, isUnlocked}
@@ -22,36 +24,30 @@ use Rattle.spi_nand.specs.declared.opcode.Operation.{Operation}
 use Rattle.nand_phases.specs.Transfer.{cacheReadAt, cacheReadTransfer, cacheLoadAt, cacheLoadTransfer}
 use Rattle.nand_phases.specs.declared.call.Call.{Call}
 use Rattle.nand_phases.specs.declared.setup.Setup.{Setup}
-use Rattle.nand_rust.specs.Bound.{pagesTouched, fillers, Figures, task, enabling, writing, identifying, configuring, unprotecting, constructing, loading, programming, erasing, marking, weightOf}
+use Rattle.nand_rust.specs.Bound.{pagesTouched, fillers, task, enabling, writing, identifying, configuring, unprotecting, constructing, loading, programming, erasing, marking, weightOf}
 use Rattle.nand_rust.specs.Program.{refused-page, pageTaken, rustProgram, programOf}
 use Rattle.nand_rust.specs.Rust.{read-register, read-status, read-configuration, read-protection, wait-ready, write-enable, write-register, disable-quad, reset, jedec-id, reset-and-identify, wanted-of, ensure-configuration, unprotect, bring-up, load-page, page-read, read-cache, load-program-data, program-execute, read-page, write-page, erase-block, reading, read, is-bad-block, filling, mark-bad-block, with-config}
 use Rattle.nand_rust.proofs.Pages.{some-page, in-range, page-turns, pages-first, filler-turns, fillers-enough}
 use Rattle.nand_rust.proofs.ReadLoop.{reading-pieces}
 use Rattle.nand_rust.proofs.FillLoop.{filling-loop}
 
--- so much for a read, by where its bytes go
-abbrev pub taking : Figures → Sink → ℕ
-taking x Sink.Number = x .moved
-taking x (Sink.Buffer at) = x .fill
-taking x (Sink.Compare from) = x .moved
+module _ {w : Transfer → ℕ} {x : Figures Operation} (figures : Weighs w x wait-ready) where
+  -- the cache, single-line or quad
+  taken : (q : QuadSetting) (column n : ℕ) (sink : Sink) → w (cacheReadAt q column n sink) ≤ sunk x sink
+  taken QuadSetting.Single column n sink = figures .framed _ _
+  taken (QuadSetting.Quad q) column n sink = figures .framed _ _
 
--- figures for the transfers of the NAND
-pub record Weighs (w : Transfer → ℕ) (x : Figures) : Type 0 where
-  pub raised : w Transfer.Raise ≤ x .raise
-  pub sent : (c : Command) → w (Transfer.Framed c Body.None) ≤ x .send
-  pub number : (c : Command) (n : ℕ) → w (Transfer.Framed c (Body.Read n Sink.Number)) ≤ x .moved
-  pub taken : (q : QuadSetting) (column n : ℕ) (sink : Sink) → w (cacheReadAt q column n sink) ≤ taking x sink
-  pub loaded : (q : QuadSetting) (column : ℕ) (payload : Payload) → w (cacheLoadAt q column payload) ≤ x .moved
-  pub waited : (operation : Operation) → Bounded w (x .waits operation) (wait-ready operation)
+  loaded : (q : QuadSetting) (column : ℕ) (payload : Payload) → w (cacheLoadAt q column payload) ≤ x .moved
+  loaded QuadSetting.Single column payload = figures .framed _ _
+  loaded (QuadSetting.Quad q) column payload = figures .framed _ _
 
-module _ {w : Transfer → ℕ} {x : Figures} (figures : Weighs w x) where
   -- ---- registers
 
   bounded-send : (c : Command) → Bounded w (x .send) (transfer (Transfer.Framed c Body.None))
-  bounded-send c = bounded-more (figures .sent c) bounded-transfer
+  bounded-send c = bounded-more (figures .framed c Body.None) bounded-transfer
 
   bounded-number : (c : Command) (n : ℕ) → Bounded w (x .moved) (transfer (Transfer.Framed c (Body.Read n Sink.Number)))
-  bounded-number c n = bounded-more (figures .number c n) bounded-transfer
+  bounded-number c n = bounded-more (figures .framed c (Body.Read n Sink.Number)) bounded-transfer
 
   bounded-register : (register : ℕ) → Bounded w (x .moved) (read-register register)
   bounded-register register = answered _ (omega arith) (bounded-number _ _)
@@ -149,14 +145,14 @@ module _ {w : Transfer → ℕ} {x : Figures} (figures : Weighs w x) where
     bounded-page-read page =
         bounded-guard _ _ (λ e. bounded-more (omega arith) (bounded-then (bounded-load-page page) (bounded-bind bounded-status (λ s. bounded-refuse _ _))))
 
-    pub bounded-read-cache : (column n : ℕ) (sink : Sink) → Bounded w (taking x sink) (read-cache flash column n sink)
+    pub bounded-read-cache : (column n : ℕ) (sink : Sink) → Bounded w (sunk x sink) (read-cache flash column n sink)
     unfolding read-cache cacheReadTransfer
-    bounded-read-cache column n sink = bounded-guard _ _ (λ e. bounded-more (figures .taken (flash .config .quad) column n sink) bounded-transfer)
+    bounded-read-cache column n sink = bounded-guard _ _ (λ e. bounded-more (taken (flash .config .quad) column n sink) bounded-transfer)
 
     pub bounded-load-data : (column n : ℕ) (payload : Payload) → Bounded w (x .moved) (load-program-data flash column n payload)
     unfolding load-program-data cacheLoadTransfer
     bounded-load-data column n payload =
-        bounded-guard _ _ (λ e. ended _ (omega arith) (bounded-more (figures .loaded (flash .config .quad) column payload) bounded-transfer))
+        bounded-guard _ _ (λ e. ended _ (omega arith) (bounded-more (loaded (flash .config .quad) column payload) bounded-transfer))
 
     pub bounded-execute : (page : ℕ) → Bounded w (programming x) (program-execute flash page)
     unfolding program-execute
@@ -165,7 +161,7 @@ module _ {w : Transfer → ℕ} {x : Figures} (figures : Weighs w x) where
         (λ e. bounded-more (omega arith)
         (bounded-then (bounded-send _) (bounded-then (figures .waited Operation.Program) (bounded-bind bounded-status (λ s. bounded-refuse _ _)))))
 
-    pub bounded-read-page : (page n : ℕ) (sink : Sink) → Bounded w (loading x + taking x sink) (read-page flash page n sink)
+    pub bounded-read-page : (page n : ℕ) (sink : Sink) → Bounded w (loading x + sunk x sink) (read-page flash page n sink)
     unfolding read-page
     bounded-read-page page n sink = bounded-guard _ _ (λ e. bounded-then (bounded-page-read page) (bounded-read-cache 0 n sink))
 

@@ -2,6 +2,7 @@
 use Prim.Native.Nat.{ℕ, _+_, _*_, _-_, _/_}
 use lib.Dec.{eqb}
 use Rattle.qspi.specs.Choice.{pick}
+use Rattle.flash_runs.specs.Weight.{Figures, actionFigures}
 use Rattle.spi_nand.specs.WaitTable.{looksOf}
 use Rattle.spi_nand.specs.declared.config.NandGeometry.{NandGeometry}
 use Rattle.spi_nand.specs.declared.config.SpiNandConfig.{SpiNandConfig}
@@ -65,15 +66,7 @@ delayBound flash (Call.MarkBadBlock block) b = markBound (flash .geometry)
 abbrev pub fillers : NandGeometry → ℕ
 fillers g = (g .«page_size» + (FILLER-CHUNK - 1)) / FILLER-CHUNK
 
--- to raise select; to send a command; to move a number, the caller's data or a page that is compared; to fill the caller's buffer; to wait
-pub record Figures : Type 0 where
-  pub raise : ℕ
-  pub send : ℕ
-  pub moved : ℕ
-  pub fill : ℕ
-  pub waits : Operation → ℕ
-
-module _ (x : Figures) where
+module _ (x : Figures Operation) where
   -- a command and its wait
   abbrev pub task : Operation → ℕ
   task operation = x .send + x .waits operation
@@ -140,14 +133,11 @@ module _ (x : Figures) where
   weightOf flash (Call.IsBadBlock block) b = loading
   weightOf flash (Call.MarkBadBlock block) b = marking (flash .geometry)
 
--- ---- actions: 1 to raise select or to delay, 3 to send a command, 4 at most for a transfer with data
+-- ---- actions
 
 -- the first delay, and looks of 4 actions with a delay behind every look but the last
 abbrev pub waitActions : Operation → ℕ
 waitActions operation = 1 + 5 * looksOf operation
 
-abbrev pub actionFigures : Figures
-actionFigures = record { raise = 1; send = 3; moved = 4; fill = 4; waits = waitActions }
-
 abbrev pub actionBound : Setup → Call → ℕ → ℕ
-actionBound = weightOf actionFigures
+actionBound = weightOf (actionFigures waitActions)

@@ -12,6 +12,7 @@ use Rattle.spi_flash.specs.Path.{Bounded}
 use Rattle.qspi.proofs.Cases.{by-cases}
 use Rattle.flash_runs.specs.Driver.{takesOf}
 use Rattle.flash_runs.proofs.Filling.{Fills}
+use Rattle.flash_runs.proofs.Weighing.{Weighs, readFigures, reads-weigh}
 use Rattle.flash_runs.proofs.Supplies.{Bounds, LendsAs}
 use Rattle.spi_flash.proofs.Laws.{bounded-more}
 use Rattle.spi_flash.proofs.Unread.{bufferReads, unread-wait}
@@ -19,50 +20,23 @@ use Rattle.spi_nor.specs.Opcode.{timingsOf}
 use Rattle.spi_nor.specs.Command.{readStatus1Command}
 use Rattle.spi_nor.specs.declared.config.NorDeviceInfo.{NorDeviceInfo}
 use Rattle.spi_nor.specs.declared.config.QuadSetting.{QuadSetting}
-use Rattle.spi_nor.specs.declared.opcode.Operation.{Operation}
-use Rattle.nor_phases.specs.Transfer.{placeOf, chunkOf, readAt, readTransfer, programAt, inRange, stepKind, afterUnit}
+use Rattle.nor_phases.specs.Transfer.{placeOf, chunkOf, readAt, readTransfer, inRange, stepKind, afterUnit}
 use Rattle.nor_phases.proofs.Pieces.{chunk-within}
 use Rattle.nor_answers.specs.declared.answer.Answer.{Answer}
 use Rattle.nor_phases.specs.declared.setup.Setup.{Setup}
 use Rattle.nor_phases.specs.declared.call.Call.{Call}
 use Rattle.nor_runs.specs.Rust.{busyValue, wait-ready, reading, read}
 use Rattle.nor_runs.specs.Program.{Left, leaving, programOf}
-use Rattle.nor_runs.specs.Bound.{pageTaken, eraseSum, Figures, quadWeight, weightOf}
+use Rattle.nor_runs.specs.Bound.{pageTaken, eraseSum, quadWeight, weightOf}
 use Rattle.nor_runs.specs.Run.{sortOf, norDriver}
 use Rattle.nor_runs.proofs.Loops.{chunk-some, reading-loop}
-use Rattle.nor_runs.proofs.Weights.{Weighs, weighed}
+use Rattle.nor_runs.proofs.Weights.{weighed}
 
 -- ---- no call but read puts anything into the caller's buffer
 
-abbrev readFigures : Figures
-readFigures = record { raise = 0; send = 0; moved = 0; fill = 1; waits = λ operation. 0 }
-
-unread-figures : Weighs bufferReads readFigures
+unread-figures : Weighs bufferReads readFigures wait-ready
 unfolding wait-ready
-unread-figures = record {
-  raised = omega arith;
-  sent = λ c. omega arith;
-  number = λ c n. omega arith;
-  filled = filled;
-  compared = compared;
-  given = given;
-  waited = waited;
-}
-  where
-    filled : (q : QuadSetting) (offset n at : ℕ) → bufferReads (readAt q offset n (Sink.Buffer at)) ≤ 1
-    filled QuadSetting.Single offset n at = omega arith
-    filled (QuadSetting.Quad q) offset n at = omega arith
-
-    compared : (q : QuadSetting) (offset n from : ℕ) → bufferReads (readAt q offset n (Sink.Compare from)) ≤ 0
-    compared QuadSetting.Single offset n from = omega arith
-    compared (QuadSetting.Quad q) offset n from = omega arith
-
-    given : (q : QuadSetting) (offset from n : ℕ) → bufferReads (programAt q offset from n) ≤ 0
-    given QuadSetting.Single offset from n = omega arith
-    given (QuadSetting.Quad q) offset from n = omega arith
-
-    waited : (operation : Operation) → Bounded bufferReads 0 (wait-ready operation)
-    waited operation = unread-wait readStatus1Command busyValue (timingsOf operation)
+unread-figures = reads-weigh wait-ready (λ operation. unread-wait readStatus1Command busyValue (timingsOf operation))
 
 -- nothing for each step is nothing
 no-sum : (device : NorDeviceInfo) (n address to : ℕ) → eraseSum (λ kind. 0) device n address to ≤ 0

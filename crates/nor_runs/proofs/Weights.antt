@@ -18,14 +18,16 @@ use Rattle.spi_flash.proofs.Loops.{bounded-loop}
 use Rattle.spi_nor.specs.Status.{quadEnabled1Of, quadEnabled2Of, unprotected1Of, unprotected2Of}
 use Rattle.spi_nor.specs.Opcode.{MAX-BULK-LEN}
 use Rattle.nor_phases.specs.Transfer.{numberTransfer, readAt, readTransfer, programAt, programTransfer, eraseTransfer, eraseOperation, multipleOf, stepKind, afterUnit}
+use Rattle.flash_runs.specs.Weight.{Figures}
 use Rattle.flash_runs.proofs.Supplies.{Bounds}
+use Rattle.flash_runs.proofs.Weighing.{sunk, Weighs}
 use Rattle.spi_nor.specs.Config.{singleConfig}
 use Rattle.spi_nor.proofs.DeviceBounds.{deviceBounds}
 use Rattle.nor_phases.specs.declared.call.Call.{Call}
 use Rattle.nor_driver.specs.Call.{givenAt}
 use Rattle.nor_steps.specs.Register.{deviceAt, deviceFor, idOf}
 use Rattle.nor_runs.specs.Rust.{read-status1, read-status2, is-busy, wait-ready, write-enable, write-status1, write-status2, jedec-id, unique-id, quad-enabled, enable-quad, disable-quad, reading, read, read-back, page-program, writing, write, erase-unit, erase-loop, erasing, erase, unprotect, quad-if, with-config}
-use Rattle.nor_runs.specs.Bound.{pageTaken, eraseSum, pieces, Figures, task, unit, paged, enablingQuad, quadWeight, constructing, weightOf}
+use Rattle.nor_runs.specs.Bound.{pageTaken, eraseSum, pieces, task, unit, paged, enablingQuad, quadWeight, constructing, weightOf}
 use Rattle.nor_runs.specs.Program.{programOf}
 use Rattle.nor_runs.specs.Run.{norDriver}
 use Rattle.spi_nor.specs.declared.config.DeviceSetting.{DeviceSetting}
@@ -37,22 +39,21 @@ use Rattle.nor_phases.specs.declared.setup.Setup.{Setup}
 use Rattle.spi_nor.specs.declared.opcode.Operation.{Operation}
 use Rattle.nor_runs.proofs.Loops.{reading-loop, writing-loop, chunk-turns, page-turns}
 
--- figures for the transfers of the NOR
-pub record Weighs (w : Transfer → ℕ) (x : Figures) : Type 0 where
-  pub raised : w Transfer.Raise ≤ x .raise
-  pub sent : (c : Command) → w (Transfer.Framed c Body.None) ≤ x .send
-  pub number : (c : Command) (n : ℕ) → w (numberTransfer c n) ≤ x .moved
-  pub filled : (q : QuadSetting) (offset n at : ℕ) → w (readAt q offset n (Sink.Buffer at)) ≤ x .fill
-  pub compared : (q : QuadSetting) (offset n from : ℕ) → w (readAt q offset n (Sink.Compare from)) ≤ x .moved
-  pub given : (q : QuadSetting) (offset from n : ℕ) → w (programAt q offset from n) ≤ x .moved
-  pub waited : (operation : Operation) → Bounded w (x .waits operation) (wait-ready operation)
+module _ {w : Transfer → ℕ} {x : Figures Operation} (figures : Weighs w x wait-ready) where
+  -- single-line or quad
+  taken : (q : QuadSetting) (offset n : ℕ) (sink : Sink) → w (readAt q offset n sink) ≤ sunk x sink
+  taken QuadSetting.Single offset n sink = figures .framed _ _
+  taken (QuadSetting.Quad q) offset n sink = figures .framed _ _
 
-module _ {w : Transfer → ℕ} {x : Figures} (figures : Weighs w x) where
+  given : (q : QuadSetting) (offset from n : ℕ) → w (programAt q offset from n) ≤ x .moved
+  given QuadSetting.Single offset from n = figures .framed _ _
+  given (QuadSetting.Quad q) offset from n = figures .framed _ _
+
   bounded-number : (c : Command) (n : ℕ) → Bounded w (x .moved) (transfer (numberTransfer c n))
-  bounded-number c n = bounded-more (figures .number c n) bounded-transfer
+  bounded-number c n = bounded-more (figures .framed c (Body.Read n Sink.Number)) bounded-transfer
 
   bounded-send : (c : Command) → Bounded w (x .send) (transfer (Transfer.Framed c Body.None))
-  bounded-send c = bounded-more (figures .sent c) bounded-transfer
+  bounded-send c = bounded-more (figures .framed c Body.None) bounded-transfer
 
   pub bounded-status1 : Bounded w (x .moved) read-status1
   bounded-status1 = bounded-more (omega arith) (bounded-bind {c = 0} (bounded-number _ _) (λ v. bounded-ret))
@@ -132,15 +133,15 @@ module _ {w : Transfer → ℕ} {x : Figures} (figures : Weighs w x) where
   module _ (flash : Setup) where
     bounded-fill : (offset n at : ℕ) → Bounded w (x .fill) (transfer (readTransfer flash offset n (Sink.Buffer at)))
     unfolding readTransfer
-    bounded-fill offset n at = bounded-more (figures .filled (flash .config .quad) offset n at) bounded-transfer
+    bounded-fill offset n at = bounded-more (taken (flash .config .quad) offset n (Sink.Buffer at)) bounded-transfer
 
     bounded-compare : (offset n from : ℕ) → Bounded w (x .moved) (transfer (readTransfer flash offset n (Sink.Compare from)))
     unfolding readTransfer
-    bounded-compare offset n from = bounded-more (figures .compared (flash .config .quad) offset n from) bounded-transfer
+    bounded-compare offset n from = bounded-more (taken (flash .config .quad) offset n (Sink.Compare from)) bounded-transfer
 
     bounded-give : (offset from n : ℕ) → Bounded w (x .moved) (transfer (programTransfer flash offset from n))
     unfolding programTransfer
-    bounded-give offset from n = bounded-more (figures .given (flash .config .quad) offset from n) bounded-transfer
+    bounded-give offset from n = bounded-more (given (flash .config .quad) offset from n) bounded-transfer
 
     -- ---- read: so much a piece
 

@@ -6,6 +6,7 @@ use Rattle.qspi.specs.Choice.{pick}
 use Rattle.spi_nor.specs.Config.{singleConfig}
 use Rattle.spi_nor.specs.Opcode.{MAX-BULK-LEN}
 use Rattle.nor_phases.specs.Transfer.{eraseOperation, stepKind, afterUnit}
+use Rattle.flash_runs.specs.Weight.{Figures, actionFigures}
 use Rattle.spi_nor.specs.WaitTable.{looksOf}
 use Rattle.spi_nor.specs.declared.config.DeviceSetting.{DeviceSetting}
 use Rattle.spi_nor.specs.declared.config.NorDeviceInfo.{NorDeviceInfo}
@@ -70,15 +71,7 @@ delayBound flash (Call.EraseBlock offset) d = 5000000
 abbrev pub pieces : ℕ → ℕ
 pieces len = (len + (MAX-BULK-LEN - 1)) / MAX-BULK-LEN
 
--- to raise select; to send a command; to move a number, the caller's data or a page that is compared; to fill the caller's buffer; to wait
-pub record Figures : Type 0 where
-  pub raise : ℕ
-  pub send : ℕ
-  pub moved : ℕ
-  pub fill : ℕ
-  pub waits : Operation → ℕ
-
-module _ (x : Figures) where
+module _ (x : Figures Operation) where
   -- write_enable and its look, a command, a wait
   abbrev pub task : Operation → ℕ
   task operation = x .send + x .moved + x .send + x .waits operation
@@ -124,14 +117,11 @@ module _ (x : Figures) where
   weightOf flash (Call.EraseSector offset) b d = unit EraseKind.Sector
   weightOf flash (Call.EraseBlock offset) b d = unit EraseKind.Block
 
--- ---- actions: 1 to raise select or to delay, 3 to send a command, 4 at most for a transfer with data
+-- ---- actions
 
 -- a look has 4 actions, and a delay comes behind every look but the last
 abbrev pub waitActions : Operation → ℕ
 waitActions operation = 5 * looksOf operation
 
-abbrev pub actionFigures : Figures
-actionFigures = record { raise = 1; send = 3; moved = 4; fill = 4; waits = waitActions }
-
 abbrev pub actionBound : Setup → Call → ℕ → ℕ → ℕ
-actionBound = weightOf actionFigures
+actionBound = weightOf (actionFigures waitActions)
