@@ -4,6 +4,7 @@ pub mod Quiet
 pub mod Buffer
 pub mod Supplies
 pub mod Weighing
+pub mod Looking
 pub mod Shapes
 pub mod Asking
 pub mod Steps

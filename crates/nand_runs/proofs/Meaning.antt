@@ -6,7 +6,6 @@ use Rattle.qspi.specs.Transfer.{commandOnly}
 use Rattle.qspi.specs.Choice.{pick}
 use Rattle.qspi.specs.declared.transfer.Payload.{Payload}
 use Rattle.qspi.specs.declared.transfer.Sink.{Sink}
-use Rattle.qspi.specs.declared.transfer.Transfer.{Transfer}
 use Rattle.spi_flash.specs.Prog.{Prog, ret, fail, if_then_else_, _>>=_, _>>_, refuse, transfer}
 use Rattle.spi_flash.specs.WaitLaw.{waiting}
 use Rattle.spi_flash.specs.declared.error.FlashError.{FlashError}
@@ -37,6 +36,7 @@ use Rattle.nand_phases.specs.declared.phase.Task.{Task}
 use Rattle.nand_phases.specs.declared.setup.Setup.{Setup}
 use Rattle.nand_steps.specs.Register.{geometryFor}
 use Rattle.nand_rust.specs.Rust.{Nothing, MAX-VERIFY-PAGE-SIZE, id-of, wanted-of, uncorrectable, read-status, read-configuration, read-protection, wait-ready, write-enable, write-register, reset, jedec-id, read-cache, load-program-data, program-execute, read-page, erase-block, reading, is-bad-block, filling}
+use Rattle.flash_runs.proofs.Looking.{looked}
 use Rattle.flash_runs.specs.Driver.{leaving}
 use Rattle.nand_rust.specs.Program.{Left}
 use Rattle.nand_runs.proofs.Places.{NandPlace}
@@ -211,17 +211,6 @@ enabled s (EnableFor.Erase block why) =
     >> (read-status >>= erased s why)
 enabled s (EnableFor.MarkBad block) = fill-on s block 0
 
--- the wait's loop after a look that found v
-unfoldable pub looked : Task → ℕ → ℕ → Prog Nothing
-looked task waited v =
-    if not (busyValue v)
-    then ret tt
-    else if leb (timingsOf (taskOperation task) .«timeout_us») waited
-    then fail FlashError.Timeout
-    else do
-      transfer (Transfer.Pause (timingsOf (taskOperation task) .«poll_us»))
-      waiting (getFeatureCommand REG-STATUS) busyValue (timingsOf (taskOperation task)) (waited + timingsOf (taskOperation task) .«poll_us»)
-
 -- ---- every phase
 
 unfoldable pub answered : Setup → Asked → ℕ → Prog Left
@@ -242,7 +231,8 @@ meaningAt s (Phase.Asking asked) v = answered s asked v
 meaningAt s (Phase.Enabling why EnableStep.Command) v = (read-status >>= latch) >> enabled s why
 meaningAt s (Phase.Enabling why EnableStep.Latch) v = latch (statusOf (v % 256)) >> enabled s why
 meaningAt s (Phase.Waiting task WaitStep.Command waited) v = wait-ready (taskOperation task) >> resumed s task
-meaningAt s (Phase.Waiting task WaitStep.Look waited) v = looked task waited v >> resumed s task
+meaningAt s (Phase.Waiting task WaitStep.Look waited) v =
+    looked (getFeatureCommand REG-STATUS) busyValue (timingsOf (taskOperation task)) waited v >> resumed s task
 meaningAt s (Phase.Waiting task WaitStep.Pause waited) v =
     waiting (getFeatureCommand REG-STATUS) busyValue (timingsOf (taskOperation task)) waited >> resumed s task
 meaningAt s (Phase.Waiting task WaitStep.Verdict waited) v = task-judged s task (statusOf (v % 256))

@@ -7,6 +7,7 @@ use borrow.Author.Tests.{eqb-true}
 use Rattle.qspi.specs.declared.transfer.Payload.{Payload}
 use Rattle.qspi.specs.declared.transfer.Sink.{Sink}
 use Rattle.qspi.proofs.Cases.{by-cases}
+use Rattle.spi_flash.proofs.Laws.{then-assoc}
 use Rattle.spi_flash.specs.Machine.{tree}
 use Rattle.spi_flash.specs.Prog.{Prog, ret, fail, ask, if_then_else_, _>>=_, _>>_, refuse}
 use Rattle.spi_flash.specs.declared.error.FlashError.{FlashError}
@@ -39,7 +40,7 @@ use Rattle.nand_rust.specs.Rust.{Nothing, wanted-of, read-status, read-configur
 use Rattle.nand_rust.specs.Program.{Left}
 use Rattle.nand_runs.proofs.Places.{decide}
 use Rattle.nand_runs.proofs.Meaning.{DONE, compared, confirmed, confirm, program-on, marker-on, fill-on, mark-on, marker-read, verify-on, program-page, read-on, accepted, loaded, after-program, after-erase, written, identify, reset-done, resumed, enabled, configured, check-configured, configure-on, unprotected, unprotect-on, check-disabled, disable-on, answered, meaningAt, meaning}
-use Rattle.nand_runs.proofs.Simulation.{bind-assoc, then-assoc, reads-cache, loads-cache, sends, enables, registers, page-reads, looks-bad, programs, erases, reads-on}
+use Rattle.nand_runs.proofs.Simulation.{bind-assoc, reads-cache, loads-cache, sends, enables, registers, page-reads, looks-bad, programs, erases, reads-on}
 
 -- ---- registers and ids
 

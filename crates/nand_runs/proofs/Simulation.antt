@@ -1,11 +1,10 @@
 -- The driver's phases do what the Rust's calls do.
-use Prim.Native.Nat.{ℕ, _+_, _-_, _%_, _≤_}
-use native.Mathlib.Omega.{arith}
+use Prim.Native.Nat.{ℕ, _+_, _%_, _≤_}
 use mathlib.Core.Bool.{Bool, true, false, not}
 use mathlib.Core.Path.{_≡_, refl, ap, sym, _∙_, fun-ext}
 use lib.Bits.{bitOr}
 use lib.Dec.{ltb, leb, eqb}
-use borrow.Author.Tests.{leb-false, le-leb, eq-eqb}
+use borrow.Author.Tests.{eq-eqb}
 use Rattle.qspi.specs.Transfer.{commandOnly}
 use Rattle.qspi.specs.Choice.{pick}
 use Rattle.qspi.specs.declared.command.Command.{Command}
@@ -15,11 +14,12 @@ use Rattle.qspi.specs.declared.transfer.Body.{Body}
 use Rattle.qspi.specs.declared.transfer.Transfer.{Transfer}
 use Rattle.qspi.proofs.Cases.{by-cases}
 use Rattle.spi_flash.specs.Prog.{Prog, ret, fail, ask, if_then_else_, _>>=_, _>>_, refuse, transfer}
-use Rattle.spi_flash.specs.Wait.{firstWait, nextWait, u32Max, saturatingAdd}
+use Rattle.spi_flash.specs.Wait.{firstWait, nextWait}
 use Rattle.spi_flash.specs.WaitLaw.{waiting, delayedWait}
 use Rattle.spi_flash.specs.Machine.{more, tree, Simulates}
 use Rattle.spi_flash.specs.declared.error.FlashError.{FlashError}
 use Rattle.spi_flash.specs.declared.wait.Wait.{Wait}
+use Rattle.spi_flash.proofs.Laws.{then-assoc}
 use Rattle.spi_flash.proofs.Waiting.{wait-in-general}
 use Rattle.spi_nand.specs.Command.{getFeatureCommand, setFeatureCommand, writeEnableCommand, pageReadCommand, programExecuteCommand, blockEraseCommand}
 use Rattle.spi_nand.specs.Config.{inBounds, pageCountOf, firstPageOf}
@@ -61,9 +61,10 @@ use Rattle.nand_rust.specs.Program.{Left}
 use Rattle.nand_rust.proofs.ReadLoop.{reading-loop}
 use Rattle.nand_rust.proofs.FillLoop.{filling-loop}
 use Rattle.flash_runs.proofs.General.{place, decideNext}
+use Rattle.flash_runs.proofs.Looking.{looked, no-wrap}
 use Rattle.nand_runs.proofs.Places.{parts, decide, Valid}
 use Rattle.nand_runs.proofs.Keeps.{keeps}
-use Rattle.nand_runs.proofs.Meaning.{DONE, latch, compared, bad, confirmed, confirm, program-on, marker-on, fill-on, mark-on, marker-read, verify-on, program-page, read-on, accepted, judged, loaded, after-program, programmed, after-erase, erased, brought-up, unprotected, unprotect-on, configured, check-configured, configure-on, check-disabled, disable-on, written, identified, identify, reset-done, resumed, task-judged, enabled, looked, answered, meaningAt, meaning}
+use Rattle.nand_runs.proofs.Meaning.{DONE, latch, compared, bad, confirmed, confirm, program-on, marker-on, fill-on, mark-on, marker-read, verify-on, program-page, read-on, accepted, judged, loaded, after-program, programmed, after-erase, erased, brought-up, unprotected, unprotect-on, configured, check-configured, configure-on, check-disabled, disable-on, written, identified, identify, reset-done, resumed, task-judged, enabled, answered, meaningAt, meaning}
 
 -- ---- binding is associative
 
@@ -72,10 +73,6 @@ unfolding _>>=_
 bind-assoc (ret a) f g = refl
 bind-assoc (fail e) f g = refl
 bind-assoc (ask t k) f g = ap (ask t) (fun-ext (λ v. bind-assoc (k v) f g))
-
-pub then-assoc : {A B C : Type 0} (p : Prog A) (q : Prog B) (r : Prog C) → (p >> q) >> r ≡ p >> (q >> r)
-unfolding _>>_
-then-assoc p q r = bind-assoc p (λ a. q) (λ b. r)
 
 -- ---- the cache
 
@@ -118,13 +115,6 @@ delayed Operation.PageRead = refl
 delayed Operation.Program = refl
 delayed Operation.Erase = refl
 delayed Operation.WriteRegister = refl
-
--- the sum asked stays below the end of 32 bits
-no-wrap : (operation : Operation) (waited : ℕ) → leb (timingsOf operation .«timeout_us») waited ≡ false →
-    saturatingAdd waited (timingsOf operation .«poll_us») ≡ waited + timingsOf operation .«poll_us»
-no-wrap operation waited e =
-    let below = leb-false (timingsOf operation .«timeout_us») waited e in
-    rw (le-leb (timingsOf operation .«poll_us») (u32Max - waited) (omega (arith, wait-table .rule operation .fits)))
 
 sent : (s : Setup) (task : Task) (waited v : ℕ) →
     meaningAt s (Phase.Waiting task WaitStep.Command waited) v ≡ tree meaning (decide (afterPhase s (Phase.Waiting task WaitStep.Command waited) v))
@@ -432,7 +422,7 @@ module _ (s : Setup) (valid : inBounds (s .geometry) ≡ true) where
       by-cases (busyValue v)
       (λ e. by-cases (leb (t .«timeout_us») waited)
       (λ d. rw (e, d))
-      (λ d. rw (e, d, no-wrap (taskOperation task) waited d)))
+      (λ d. rw (e, d, no-wrap t waited (wait-table .rule (taskOperation task) .fits) d)))
       (λ e. rw e (resumes task))
 
   -- write_enable has set the latch

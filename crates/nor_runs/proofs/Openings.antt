@@ -8,6 +8,7 @@ use borrow.Author.Tests.{le-ltb}
 use Rattle.qspi.specs.Choice.{pick}
 use Rattle.qspi.specs.declared.transfer.Sink.{Sink}
 use Rattle.qspi.specs.declared.transfer.Transfer.{Transfer}
+use Rattle.spi_flash.proofs.Laws.{then-assoc}
 use Rattle.spi_flash.specs.Prog.{Prog, ret, ask, _>>=_, _>>_, refuse}
 use Rattle.spi_flash.specs.Machine.{tree}
 use Rattle.spi_flash.specs.declared.loan.Takes.{Takes}
@@ -38,7 +39,7 @@ use Rattle.nor_steps.specs.declared.then.Then.{Then}
 use Rattle.nor_runs.proofs.Loops.{erasing-loop}
 use Rattle.nor_runs.proofs.Places.{place, decide, norParts, Valid, Built, Stays}
 use Rattle.nor_runs.proofs.Keeps.{stays, keeps-read, keeps-program, keeps-unit, keeps-erase, keeps-pick}
-use Rattle.nor_runs.proofs.Simulation.{meaning, then-assoc, starts, reads-on, writes-on, erases-unit, erases-on, beginnings}
+use Rattle.nor_runs.proofs.Simulation.{meaning, starts, reads-on, writes-on, erases-unit, erases-on, beginnings}
 
 -- ---- the Rust's tests before the bus
 

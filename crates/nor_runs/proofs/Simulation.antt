@@ -1,20 +1,21 @@
 -- The driver's phases do what the Rust's calls do.
-use Prim.Native.Nat.{ℕ, _+_, _-_}
-use native.Mathlib.Omega.{arith}
-use mathlib.Core.Bool.{Bool, true, false, not}
+use Prim.Native.Nat.{ℕ, _+_}
+use mathlib.Core.Bool.{Bool, true, not}
 use mathlib.Core.Path.{_≡_, refl, ap, sym, _∙_, fun-ext}
 use lib.Dec.{ltb, leb, eqb}
-use borrow.Author.Tests.{leb-true, leb-false, le-leb, le-ltb, lt-ltb}
+use borrow.Author.Tests.{leb-true, leb-false, le-ltb, lt-ltb}
 use Rattle.qspi.specs.Transfer.{commandOnly}
 use Rattle.qspi.specs.declared.transfer.Transfer.{Transfer}
 use Rattle.spi_flash.specs.Prog.{Prog, ret, fail, ask, if_then_else_, _>>=_, _>>_, refuse, transfer}
-use Rattle.spi_flash.specs.Wait.{firstWait, nextWait, u32Max, saturatingAdd}
+use Rattle.spi_flash.specs.Wait.{firstWait, nextWait}
 use Rattle.spi_flash.specs.WaitLaw.{waiting, promptWait}
 use Rattle.spi_flash.specs.Machine.{more, tree, Simulates}
 use Rattle.spi_flash.specs.declared.error.FlashError.{FlashError}
 use Rattle.spi_flash.specs.declared.wait.Wait.{Wait}
 use Rattle.qspi.proofs.Cases.{by-cases}
+use Rattle.spi_flash.proofs.Laws.{then-assoc}
 use Rattle.spi_flash.proofs.Waiting.{wait-in-general}
+use Rattle.flash_runs.proofs.Looking.{looked, no-wrap}
 use Rattle.spi_nor.specs.Opcode.{timingsOf}
 use Rattle.spi_nor.specs.Status.{busyOf, writeEnabledOf, quadEnabled1Of, quadEnabled2Of, withQuad1Of, withQuad2Of, withoutQuad1Of, withoutQuad2Of, unprotected1Of, unprotected2Of}
 use Rattle.spi_nor.specs.Command.{writeEnableCommand, readStatus1Command, readStatus2Command, readIdCommand, readUniqueIdCommand}
@@ -119,17 +120,6 @@ context s (Task.PageProgram offset len done) p =
     >> DONE s
 context s (Task.Erase kind address end) p = (p >> erasing s (afterUnit (s .device) kind address) end) >> DONE s
 
--- the wait's loop after a look that found v
-looked : Task → ℕ → ℕ → Prog Nothing
-looked task waited v =
-    if not (busyValue v)
-    then ret tt
-    else if leb (timingsOf (taskOperation task) .«timeout_us») waited
-    then fail FlashError.Timeout
-    else do
-      transfer (Transfer.Pause (timingsOf (taskOperation task) .«poll_us»))
-      waiting readStatus1Command busyValue (timingsOf (taskOperation task)) (waited + timingsOf (taskOperation task) .«poll_us»)
-
 latch : ℕ → Prog Nothing
 latch status1 = refuse (not (writeEnabledOf status1)) FlashError.WriteEnableFailed
 
@@ -181,7 +171,7 @@ meaningAt s (Phase.Verifying offset len done) v = (verified v >> writing s offse
 meaningAt s (Phase.Writing task WriteStep.Enable waited) v = context s task ((read-status1 >>= latch) >> (transfer (taskTransfer s task) >> waitOf task))
 meaningAt s (Phase.Writing task WriteStep.Latch waited) v = context s task (latch (byteOf v) >> (transfer (taskTransfer s task) >> waitOf task))
 meaningAt s (Phase.Writing task WriteStep.Command waited) v = context s task (waitOf task)
-meaningAt s (Phase.Writing task WriteStep.Look waited) v = context s task (looked task waited v)
+meaningAt s (Phase.Writing task WriteStep.Look waited) v = context s task (looked readStatus1Command busyValue (timingsOf (taskOperation task)) waited v)
 meaningAt s (Phase.Writing task WriteStep.Pause waited) v = context s task (waiting readStatus1Command busyValue (timingsOf (taskOperation task)) waited)
 
 abbrev pub meaning : Place → ℕ → Prog Left
@@ -233,21 +223,7 @@ prompt Operation.SectorErase = refl
 prompt Operation.BlockErase = refl
 prompt Operation.StatusWrite = refl
 
--- the sum asked stays below the end of 32 bits
-no-wrap : (operation : Operation) (waited : ℕ) → leb (timingsOf operation .«timeout_us») waited ≡ false →
-    saturatingAdd waited (timingsOf operation .«poll_us») ≡ waited + timingsOf operation .«poll_us»
-no-wrap operation waited e =
-    let below = leb-false (timingsOf operation .«timeout_us») waited e in
-    rw (le-leb (timingsOf operation .«poll_us») (u32Max - waited) (omega (arith, wait-table .rule operation .fits)))
-
 -- ---- what follows, in the order of the phases
-
--- a register write of enable_quad, disable_quad and unprotect is a task
-pub then-assoc : {A B C : Type 0} (p : Prog A) (q : Prog B) (r : Prog C) → (p >> q) >> r ≡ p >> (q >> r)
-unfolding _>>=_ _>>_
-then-assoc (ret a) q r = refl
-then-assoc (fail e) q r = refl
-then-assoc (ask t k) q r = ap (ask t) (fun-ext (λ v. then-assoc (k v) q r))
 
 latches : (s : Setup) (task : Task) (waited v : ℕ) → meaningAt s (Phase.Writing task WriteStep.Latch waited) v ≡ tree meaning (decide (latchedThen s task (byteOf v)))
 unfolding meaningAt latch latchedThen refuse _>>=_ _>>_
@@ -384,7 +360,7 @@ module _ (s : Setup) (valid : inBoundsOf (s .device) ≡ true) where
       by-cases (busyValue v)
       (λ e. by-cases (leb (t .«timeout_us») waited)
       (λ d. rw (e, d) (through s task FlashError.Timeout))
-      (λ d. rw (e, d, no-wrap (taskOperation task) waited d) (under s task _ _)))
+      (λ d. rw (e, d, no-wrap t waited (wait-table .rule (taskOperation task) .fits) d) (under s task _ _)))
       (λ e. rw e (resumes task))
 
   sent : (task : Task) (waited v : ℕ) → meaningAt s (Phase.Writing task WriteStep.Command waited) v ≡ tree meaning (decide (afterPhase s (Phase.Writing task WriteStep.Command waited) v))
