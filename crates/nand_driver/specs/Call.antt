@@ -1,10 +1,9 @@
 -- How the SPI NAND driver's calls begin (specs/Beginning.antt of spi_flash), and what stands in it before the id is known.
 use Prim.Native.Nat.{ℕ}
 use mathlib.Core.Bool.{false}
-use Rattle.spi_flash.specs.Beginning.{Calls, raising, constructed, told, freed, opened, begun, atRest, begins}
+use Rattle.spi_flash.specs.Beginning.{Calls, begins}
 use Rattle.spi_flash.specs.Shape as Shape
 use Rattle.spi_flash.specs.Shape.{constructing, telling, releasing, working}
-use Rattle.spi_flash.specs.declared.loan.Takes.{Takes}
 use Rattle.spi_nand.specs.Config.{W25N01GV, inBounds, singleConfig, UNKNOWN}
 use Rattle.spi_nand.specs.declared.config.GeometrySetting.{GeometrySetting}
 use Rattle.spi_nand.specs.declared.config.NandGeometry.{NandGeometry}
@@ -13,7 +12,6 @@ use Rattle.nand_answers.specs.declared.answer.Answer.{Answer}
 use Rattle.nand_phases.specs.declared.call.Call.{Call}
 use Rattle.nand_phases.specs.declared.phase.Phase.{Phase}
 use Rattle.nand_phases.specs.declared.setup.Setup.{Setup}
-use Rattle.nand_steps.specs.declared.then.Then.{Then}
 use Rattle.nand_opening.specs.Opening.{openingOf}
 use Rattle.nand_opening.specs.declared.opening.Opening.{Opening}
 use Rattle.nand_driver.specs.Settle.{thenAs, flashOf, nandShape}
@@ -52,30 +50,6 @@ nandCalls =
       done = Answer.Done;
       inBounds = λ setup. inBounds (setup .geometry);
     }
-
--- ---- how they begin
-
-abbrev pub raisedOf : SpiNandConfig → Stepped
-raisedOf config = raising nandShape nandCalls (freshSetup config)
-
-abbrev pub constructedOf : SpiNandFlash → SpiNandConfig → ℕ → Stepped
-constructedOf flash config scratch = constructed nandShape nandCalls flash (freshSetup config) scratch
-
--- info, config, geometry
-abbrev pub toldOf : SpiNandFlash → Answer → Stepped
-toldOf = told nandShape
-
-abbrev pub freedOf : SpiNandFlash → Stepped
-freedOf = freed nandShape nandCalls
-
-abbrev pub openedOf : SpiNandFlash → Takes → Then → Stepped
-openedOf flash takes then = opened nandShape flash takes (thenAs then)
-
-abbrev pub begunOf : SpiNandFlash → ℕ → Takes → Then → Stepped
-begunOf flash scratch takes then = begun nandShape nandCalls flash scratch takes (thenAs then)
-
-abbrev pub idleOf : SpiNandFlash → Opening → ℕ → Stepped
-idleOf flash opening scratch = atRest nandShape nandCalls flash (openingAs opening) scratch
 
 -- every call, with the lengths of scratch, buffer and data
 abbrev pub beginOf : SpiNandFlash → Call → ℕ → ℕ → ℕ → Stepped

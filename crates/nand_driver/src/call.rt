@@ -23,7 +23,9 @@ use spi_nand::config::NandInit;
 use spi_nand::config::SpiNandConfig;
 ghost use mathlib.Core.Path.{_≡_};
 ghost use lib.ListN.{length};
-ghost use Rattle.nand_driver.specs.Call.{notBuilt, givenGeometry, freshSetup, raisedOf, constructedOf, toldOf, freedOf, openedOf, begunOf, idleOf, beginOf};
+ghost use Rattle.spi_flash.specs.Beginning.{raising, constructed, told, freed, opened, begun, atRest};
+ghost use Rattle.nand_driver.specs.Call.{notBuilt, givenGeometry, freshSetup, openingAs, nandCalls, beginOf};
+ghost use Rattle.nand_driver.specs.Settle.{thenAs, nandShape};
 
 impl SpiNandFlash {
     // A driver before any construction.
@@ -59,7 +61,7 @@ fn fresh(config: SpiNandConfig) -> Setup
 
 // Select high, with which a construction begins.
 fn raise(config: SpiNandConfig) -> Stepped
-    ensures { λ r. ⌜ r ≡ raisedOf config ⌝ }
+    ensures { λ r. ⌜ r ≡ raising nandShape nandCalls (freshSetup config) ⌝ }
 {
     let setup = fresh(config);
     settle::settle(
@@ -70,7 +72,7 @@ fn raise(config: SpiNandConfig) -> Stepped
 }
 
 fn construct(flash: SpiNandFlash, config: SpiNandConfig, scratch_len: usize) -> Stepped
-    ensures { λ r. ⌜ r ≡ constructedOf flash config «scratch_len» ⌝ }
+    ensures { λ r. ⌜ r ≡ constructed nandShape nandCalls flash (freshSetup config) «scratch_len» ⌝ }
 {
     match entry::may_begin(true, scratch_len, given_geometry(config).in_bounds()) {
         Entry::Open => return raise(config),
@@ -81,7 +83,7 @@ fn construct(flash: SpiNandFlash, config: SpiNandConfig, scratch_len: usize) -> 
 // ---- accessors
 
 fn told(flash: SpiNandFlash, answer: Answer) -> Stepped
-    ensures { λ r. ⌜ r ≡ toldOf flash answer ⌝ }
+    ensures { λ r. ⌜ r ≡ told nandShape flash answer ⌝ }
 {
     if flash.built {
         return Stepped {
@@ -94,7 +96,7 @@ fn told(flash: SpiNandFlash, answer: Answer) -> Stepped
 
 // The Rust gives its bus back, and nothing can be called on what it was.
 fn freed(flash: SpiNandFlash) -> Stepped
-    ensures { λ r. ⌜ r ≡ freedOf flash ⌝ }
+    ensures { λ r. ⌜ r ≡ freed nandShape nandCalls flash ⌝ }
 {
     if flash.built {
         let setup = flash.setup;
@@ -110,7 +112,7 @@ fn freed(flash: SpiNandFlash) -> Stepped
 
 // What is turned away before its first action has not begun.
 fn opened(flash: SpiNandFlash, takes: Takes, then: Then) -> Stepped
-    ensures { λ r. ⌜ r ≡ openedOf flash takes then ⌝ }
+    ensures { λ r. ⌜ r ≡ opened nandShape flash takes (thenAs «then») ⌝ }
 {
     let setup = flash.setup;
     let Then::Fail(error) = then else {
@@ -125,7 +127,7 @@ fn opened(flash: SpiNandFlash, takes: Takes, then: Then) -> Stepped
 
 // The Rust's own refusals come last.
 fn begun(flash: SpiNandFlash, scratch_len: usize, takes: Takes, then: Then) -> Stepped
-    ensures { λ r. ⌜ r ≡ begunOf flash «scratch_len» takes then ⌝ }
+    ensures { λ r. ⌜ r ≡ begun nandShape nandCalls flash «scratch_len» takes (thenAs «then») ⌝ }
 {
     let setup = flash.setup;
     let geometry = setup.geometry;
@@ -138,7 +140,7 @@ fn begun(flash: SpiNandFlash, scratch_len: usize, takes: Takes, then: Then) -> S
 // ---- every call
 
 fn idle(flash: SpiNandFlash, opening: Opening, scratch_len: usize) -> Stepped
-    ensures { λ r. ⌜ r ≡ idleOf flash opening «scratch_len» ⌝ }
+    ensures { λ r. ⌜ r ≡ atRest nandShape nandCalls flash (openingAs opening) «scratch_len» ⌝ }
 {
     match opening {
         Opening::Constructs(config) => return construct(flash, config, scratch_len),

@@ -15,11 +15,13 @@ use spi_flash::error::FlashError;
 use spi_flash::loan;
 ghost use mathlib.Core.Path.{_≡_};
 ghost use lib.ListN.{length};
-ghost use Rattle.nand_reply.specs.Step.{gaveOf, overOf, exchangedOf, movedTo, stepOf, deliveredPart};
+ghost use Rattle.spi_flash.specs.Replying.{gave, over, exchanged};
+ghost use Rattle.nand_driver.specs.Settle.{jobAs, nandShape};
+ghost use Rattle.nand_reply.specs.Step.{nandNext, movedTo, stepOf, deliveredPart};
 
 // Another action of the transfer that is out.
 fn gave(flash: SpiNandFlash, job: Job, next: Frame, delivered: usize, action: Action) -> Stepped
-    ensures { λ r. ⌜ r ≡ gaveOf flash job next delivered action ⌝ }
+    ensures { λ r. ⌜ r ≡ gave nandShape nandNext flash (jobAs job) next delivered action ⌝ }
 {
     let setup = flash.setup;
     let phase = job.phase;
@@ -32,7 +34,7 @@ fn gave(flash: SpiNandFlash, job: Job, next: Frame, delivered: usize, action: Ac
 
 // The transfer that was out is over.
 fn over(flash: SpiNandFlash, job: Job, outcome: Outcome) -> Stepped
-    ensures { λ r. ⌜ r ≡ overOf flash job outcome ⌝ }
+    ensures { λ r. ⌜ r ≡ over nandShape nandNext flash (jobAs job) outcome ⌝ }
 {
     let setup = flash.setup;
     let phase = job.phase;
@@ -40,10 +42,10 @@ fn over(flash: SpiNandFlash, job: Job, outcome: Outcome) -> Stepped
     settle::settle(flash, takes, next::next(setup, phase, outcome))
 }
 
-fn exchanged(flash: SpiNandFlash, job: Job, delivered: usize, exchanged: Exchanged) -> Stepped
-    ensures { λ r. ⌜ r ≡ exchangedOf flash job delivered exchanged ⌝ }
+fn exchanged(flash: SpiNandFlash, job: Job, delivered: usize, heard: Exchanged) -> Stepped
+    ensures { λ r. ⌜ r ≡ exchanged nandShape nandNext flash (jobAs job) delivered heard ⌝ }
 {
-    match exchanged {
+    match heard {
         Exchanged::Misfit => return settle::refused(flash, FlashError::Misfit),
         Exchanged::Gave { frame, action } => return gave(flash, job, frame, delivered, action),
         Exchanged::Over(outcome) => return over(flash, job, outcome),

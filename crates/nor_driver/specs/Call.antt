@@ -1,10 +1,9 @@
 -- How the SPI NOR driver's calls begin (specs/Beginning.antt of spi_flash), and what stands in it before the id is known.
 use Prim.Native.Nat.{ℕ}
 use mathlib.Core.Bool.{false}
-use Rattle.spi_flash.specs.Beginning.{Calls, raising, constructed, told, freed, opened, begun, atRest, begins}
+use Rattle.spi_flash.specs.Beginning.{Calls, begins}
 use Rattle.spi_flash.specs.Shape as Shape
 use Rattle.spi_flash.specs.Shape.{constructing, telling, releasing, working}
-use Rattle.spi_flash.specs.declared.loan.Takes.{Takes}
 use Rattle.spi_nor.specs.Config.{w25q128jv, inBoundsOf, singleConfig, jedecId}
 use Rattle.spi_nor.specs.declared.config.DeviceSetting.{DeviceSetting}
 use Rattle.spi_nor.specs.declared.config.NorDeviceInfo.{NorDeviceInfo}
@@ -13,7 +12,6 @@ use Rattle.nor_answers.specs.declared.answer.Answer.{Answer}
 use Rattle.nor_phases.specs.declared.call.Call.{Call}
 use Rattle.nor_phases.specs.declared.phase.Phase.{Phase}
 use Rattle.nor_phases.specs.declared.setup.Setup.{Setup}
-use Rattle.nor_steps.specs.declared.then.Then.{Then}
 use Rattle.nor_opening.specs.Opening.{openingOf}
 use Rattle.nor_opening.specs.declared.opening.Opening.{Opening}
 use Rattle.nor_driver.specs.Settle.{thenAs, flashOf, norShape}
@@ -54,30 +52,6 @@ norCalls =
       done = Answer.Done;
       inBounds = λ setup. inBoundsOf (setup .device);
     }
-
--- ---- how they begin
-
-abbrev pub raisedOf : SpiNorConfig → Stepped
-raisedOf config = raising norShape norCalls (freshSetup config)
-
-abbrev pub constructedOf : SpiNorFlash → SpiNorConfig → ℕ → Stepped
-constructedOf flash config scratch = constructed norShape norCalls flash (freshSetup config) scratch
-
--- config, device, id
-abbrev pub toldOf : SpiNorFlash → Answer → Stepped
-toldOf = told norShape
-
-abbrev pub freedOf : SpiNorFlash → Stepped
-freedOf = freed norShape norCalls
-
-abbrev pub openedOf : SpiNorFlash → Takes → Then → Stepped
-openedOf flash takes then = opened norShape flash takes (thenAs then)
-
-abbrev pub begunOf : SpiNorFlash → ℕ → Takes → Then → Stepped
-begunOf flash scratch takes then = begun norShape norCalls flash scratch takes (thenAs then)
-
-abbrev pub idleOf : SpiNorFlash → Opening → ℕ → Stepped
-idleOf flash opening scratch = atRest norShape norCalls flash (openingAs opening) scratch
 
 -- every call, with the lengths of scratch, buffer and data
 abbrev pub beginOf : SpiNorFlash → Call → ℕ → ℕ → ℕ → Stepped

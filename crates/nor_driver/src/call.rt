@@ -23,7 +23,9 @@ use spi_nor::config::NorJedecId;
 use spi_nor::config::SpiNorConfig;
 ghost use mathlib.Core.Path.{_≡_};
 ghost use lib.ListN.{length};
-ghost use Rattle.nor_driver.specs.Call.{notBuilt, givenDevice, freshSetup, raisedOf, constructedOf, toldOf, freedOf, openedOf, begunOf, idleOf, beginOf};
+ghost use Rattle.spi_flash.specs.Beginning.{raising, constructed, told, freed, opened, begun, atRest};
+ghost use Rattle.nor_driver.specs.Call.{notBuilt, givenDevice, freshSetup, openingAs, norCalls, beginOf};
+ghost use Rattle.nor_driver.specs.Settle.{thenAs, norShape};
 
 impl SpiNorFlash {
     // A driver before any construction.
@@ -63,7 +65,7 @@ fn fresh(config: SpiNorConfig) -> Setup
 
 // Select high, with which a construction begins.
 fn raise(config: SpiNorConfig) -> Stepped
-    ensures { λ r. ⌜ r ≡ raisedOf config ⌝ }
+    ensures { λ r. ⌜ r ≡ raising norShape norCalls (freshSetup config) ⌝ }
 {
     let setup = fresh(config);
     settle::settle(
@@ -74,7 +76,7 @@ fn raise(config: SpiNorConfig) -> Stepped
 }
 
 fn construct(flash: SpiNorFlash, config: SpiNorConfig, scratch_len: usize) -> Stepped
-    ensures { λ r. ⌜ r ≡ constructedOf flash config «scratch_len» ⌝ }
+    ensures { λ r. ⌜ r ≡ constructed norShape norCalls flash (freshSetup config) «scratch_len» ⌝ }
 {
     match entry::may_begin(true, scratch_len, given_device(config).in_bounds()) {
         Entry::Open => return raise(config),
@@ -85,7 +87,7 @@ fn construct(flash: SpiNorFlash, config: SpiNorConfig, scratch_len: usize) -> St
 // ---- accessors
 
 fn told(flash: SpiNorFlash, answer: Answer) -> Stepped
-    ensures { λ r. ⌜ r ≡ toldOf flash answer ⌝ }
+    ensures { λ r. ⌜ r ≡ told norShape flash answer ⌝ }
 {
     if flash.built {
         return Stepped {
@@ -98,7 +100,7 @@ fn told(flash: SpiNorFlash, answer: Answer) -> Stepped
 
 // The Rust gives its bus back, and nothing can be called on what it was.
 fn freed(flash: SpiNorFlash) -> Stepped
-    ensures { λ r. ⌜ r ≡ freedOf flash ⌝ }
+    ensures { λ r. ⌜ r ≡ freed norShape norCalls flash ⌝ }
 {
     if flash.built {
         let setup = flash.setup;
@@ -114,7 +116,7 @@ fn freed(flash: SpiNorFlash) -> Stepped
 
 // What is turned away before its first action has not begun.
 fn opened(flash: SpiNorFlash, takes: Takes, then: Then) -> Stepped
-    ensures { λ r. ⌜ r ≡ openedOf flash takes then ⌝ }
+    ensures { λ r. ⌜ r ≡ opened norShape flash takes (thenAs «then») ⌝ }
 {
     let setup = flash.setup;
     let Then::Fail(error) = then else {
@@ -129,7 +131,7 @@ fn opened(flash: SpiNorFlash, takes: Takes, then: Then) -> Stepped
 
 // The Rust's own refusals come last.
 fn begun(flash: SpiNorFlash, scratch_len: usize, takes: Takes, then: Then) -> Stepped
-    ensures { λ r. ⌜ r ≡ begunOf flash «scratch_len» takes then ⌝ }
+    ensures { λ r. ⌜ r ≡ begun norShape norCalls flash «scratch_len» takes (thenAs «then») ⌝ }
 {
     let setup = flash.setup;
     let device = setup.device;
@@ -142,7 +144,7 @@ fn begun(flash: SpiNorFlash, scratch_len: usize, takes: Takes, then: Then) -> St
 // ---- every call
 
 fn idle(flash: SpiNorFlash, opening: Opening, scratch_len: usize) -> Stepped
-    ensures { λ r. ⌜ r ≡ idleOf flash opening «scratch_len» ⌝ }
+    ensures { λ r. ⌜ r ≡ atRest norShape norCalls flash (openingAs opening) «scratch_len» ⌝ }
 {
     match opening {
         Opening::Constructs(config) => return construct(flash, config, scratch_len),

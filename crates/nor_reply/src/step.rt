@@ -14,11 +14,13 @@ use qspi::bus::Reply;
 use spi_flash::error::FlashError;
 use spi_flash::loan;
 ghost use mathlib.Core.Path.{_≡_};
-ghost use Rattle.nor_reply.specs.Step.{gaveOf, overOf, exchangedOf, movedTo, stepOf, deliveredPart};
+ghost use Rattle.spi_flash.specs.Replying.{gave, over, exchanged};
+ghost use Rattle.nor_driver.specs.Settle.{jobAs, norShape};
+ghost use Rattle.nor_reply.specs.Step.{norNext, movedTo, stepOf, deliveredPart};
 
 // Another action of the transfer that is out.
 fn gave(flash: SpiNorFlash, job: Job, next: Frame, delivered: usize, action: Action) -> Stepped
-    ensures { λ r. ⌜ r ≡ gaveOf flash job next delivered action ⌝ }
+    ensures { λ r. ⌜ r ≡ gave norShape norNext flash (jobAs job) next delivered action ⌝ }
 {
     let setup = flash.setup;
     let phase = job.phase;
@@ -31,7 +33,7 @@ fn gave(flash: SpiNorFlash, job: Job, next: Frame, delivered: usize, action: Act
 
 // The transfer that was out is over.
 fn over(flash: SpiNorFlash, job: Job, outcome: Outcome) -> Stepped
-    ensures { λ r. ⌜ r ≡ overOf flash job outcome ⌝ }
+    ensures { λ r. ⌜ r ≡ over norShape norNext flash (jobAs job) outcome ⌝ }
 {
     let setup = flash.setup;
     let phase = job.phase;
@@ -39,10 +41,10 @@ fn over(flash: SpiNorFlash, job: Job, outcome: Outcome) -> Stepped
     settle::settle(flash, takes, next::next(setup, phase, outcome))
 }
 
-fn exchanged(flash: SpiNorFlash, job: Job, delivered: usize, exchanged: Exchanged) -> Stepped
-    ensures { λ r. ⌜ r ≡ exchangedOf flash job delivered exchanged ⌝ }
+fn exchanged(flash: SpiNorFlash, job: Job, delivered: usize, heard: Exchanged) -> Stepped
+    ensures { λ r. ⌜ r ≡ exchanged norShape norNext flash (jobAs job) delivered heard ⌝ }
 {
-    match exchanged {
+    match heard {
         Exchanged::Misfit => return settle::refused(flash, FlashError::Misfit),
         Exchanged::Gave { frame, action } => return gave(flash, job, frame, delivered, action),
         Exchanged::Over(outcome) => return over(flash, job, outcome),

@@ -1,11 +1,11 @@
 use mathlib.Core.Path.{_≡_, refl, _∙_}
 use Rattle.spi_flash.specs.Beginning.{freshCall, opened}
+use Rattle.spi_flash.specs.Settling.{settled}
 use Rattle.spi_flash.specs.declared.loan.Takes.{Takes}
 use Rattle.nand_phases.specs.declared.setup.Setup.{Setup}
 use Rattle.nand_steps.specs.declared.then.Next.{Next}
 use Rattle.nand_steps.specs.declared.then.Then.{Then}
-use Rattle.nand_driver.specs.Call.{openedOf}
-use Rattle.nand_driver.specs.Settle.{nandShape, settledOf}
+use Rattle.nand_driver.specs.Settle.{thenAs, nandShape}
 use Rattle.nand_driver.specs.declared.state.SpiNandFlash.{SpiNandFlash}
 use Rattle.nand_driver.specs.declared.state.Stepped.{Stepped}
 use borrow.Author.Needs.{needs}
@@ -25,13 +25,13 @@ settle-requires : tie.Need-settle-requires
 settle-requires c κs = search needs
 
 -- what goes on is settled
-on : (flash : SpiNandFlash) (takes : Takes) (setup : Setup) (next : Next) → settledOf (freshCall nandShape flash) takes (Then.On setup next) ≡ openedOf flash takes (Then.On setup next)
+on : (flash : SpiNandFlash) (takes : Takes) (setup : Setup) (next : Next) → settled nandShape (freshCall nandShape flash) takes (thenAs (Then.On setup next)) ≡ opened nandShape flash takes (thenAs (Then.On setup next))
 unfolding opened
 on flash takes setup (Next.Go transfer phase) = refl
 on flash takes setup (Next.End answer) = refl
 
 goes-on : (flash : SpiNandFlash) (takes : Takes) (then : Then) (r : Stepped) (setup : Setup) (next : Next) → then ≡ Then.On setup next →
-    r ≡ settledOf (freshCall nandShape flash) takes then → r ≡ openedOf flash takes then
+    r ≡ settled nandShape (freshCall nandShape flash) takes (thenAs then) → r ≡ opened nandShape flash takes (thenAs then)
 goes-on flash takes then r setup next is h = h ∙ rw is (on flash takes setup next)
 
 returns : tie.Need-returns
