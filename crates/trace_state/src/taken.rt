@@ -18,6 +18,7 @@ pub fn turned(
     at: &mut usize,
 ) -> Turn
     ensures { λ r. ⌜ takenTo (r .settings) (r .place) (r .ask) (now (room .exit)) (now (reply .exit)) (textOf (now (out .exit)) (now (at .exit))) ≡ takenBy trace (now (text .entry)) (now (scratch .entry)) (now (room .entry)) (now (reply .entry)) (textOf (now (out .entry)) (now (at .entry))) ⌝ }
+    ensures { λ r. ⌜ r .at ≡ now (at .exit) ⌝ }
 {
     let stepped = trace.stepped;
     let given = stepped.given;

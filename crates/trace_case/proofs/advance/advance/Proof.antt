@@ -25,7 +25,7 @@ returns : tie.Need-returns
 returns c =
     let answered = c .before .before .before .before in
     let turn = answered .before .before .before .before .before .before .before .before .before .before in
-    advanced _ _ _ _ _ _ (turn .turned .result) _ _ _ _ _ _ _ (turn .turned .ensures) (answered .answered .ensures)
+    advanced _ _ _ _ _ _ (turn .turned .result) _ _ _ _ _ _ _ (turn .turned .ensures .0) (answered .answered .ensures)
 
 pub advance-spec : {M : Type 1} → statement M
 advance-spec =
