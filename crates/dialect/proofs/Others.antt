@@ -4,8 +4,8 @@ use types.Run.{OneOf, miss}
 use denote.Enum.Declared.{tagOf}
 use mathlib.Core.List.{List, [], _∷_}
 use mathlib.Core.Path.{_≡_, refl}
-use Rattle.flash.specs.declared.state.Given.{Given}
-use Rattle.flash.proofs.state.Given as given
+use Rattle.flash_calls.specs.declared.given.Given.{Given}
+use Rattle.flash_calls.proofs.given.Given as given
 use Rattle.trace_turns.specs.Place.{inMode}
 use Rattle.trace_turns.specs.declared.place.Mode.{Mode}
 use Rattle.trace_turns.specs.declared.place.Place.{Place}

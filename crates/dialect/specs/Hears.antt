@@ -10,7 +10,7 @@ use Rattle.qspi.specs.declared.bus.Reply.{Reply}
 use Rattle.case_text.specs.Line.{lineAt, nextOf}
 use Rattle.case_text.specs.Number.{bytesOf}
 use Rattle.spi_flash.specs.declared.error.FlashError.{FlashError}
-use Rattle.flash.specs.declared.state.Given.{Given}
+use Rattle.flash_calls.specs.declared.given.Given.{Given}
 use Rattle.trace_words.specs.declared.heard.Heard.{Heard}
 use Rattle.trace_turns.specs.Place.{inMode, readTo}
 use Rattle.trace_turns.specs.declared.place.Mode.{Mode}

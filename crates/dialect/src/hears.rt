@@ -3,7 +3,7 @@ use crate::heard;
 use crate::settings::Settings;
 use case_text::line;
 use case_text::word;
-use flash::state::Given;
+use flash_calls::given::Given;
 use qspi::bus;
 use qspi::bus::Reply;
 use spi_flash::error::FlashError;

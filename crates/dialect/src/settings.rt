@@ -1,6 +1,6 @@
 // The settings for the next `new`. They tell whose words a case is written in.
 use case_text::line::Line;
-use flash::state::Kind;
+use flash_calls::call::Kind;
 use spi_nand::config::SpiNandConfig;
 use spi_nor::config::SpiNorConfig;
 ghost use mathlib.Core.Path.{_≡_};

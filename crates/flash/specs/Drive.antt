@@ -3,7 +3,7 @@ use Prim.Native.Nat.{ℕ}
 use mathlib.Core.List.{List}
 use Rattle.qspi.specs.declared.bus.Reply.{Reply}
 use Rattle.spi_flash.specs.declared.error.FlashError.{FlashError}
-pub use Rattle.spi_flash.specs.Replying.{Moved, movedTo}
+pub use Rattle.spi_flash.specs.Replying.{AfterStep, steppedTo}
 use Rattle.nor_driver.specs.Call as norCall
 use Rattle.nor_reply.specs.Step as norStep
 use Rattle.nor_driver.specs.declared.state.Given as norGives
@@ -14,11 +14,11 @@ use Rattle.nand_driver.specs.declared.state.Given as nandGives
 use Rattle.nand_driver.specs.declared.state.SpiNandFlash.{SpiNandFlash}
 use Rattle.nand_driver.specs.declared.state.Stepped as nandState
 use Rattle.nand_reply.specs.Step as nandStep
-use Rattle.flash.specs.declared.state.Answer.{Answer}
-use Rattle.flash.specs.declared.state.Call.{Call}
+use Rattle.flash_calls.specs.declared.given.Answer.{Answer}
+use Rattle.flash_calls.specs.declared.call.Call.{Call}
 use Rattle.flash.specs.declared.state.Flash.{Flash}
-use Rattle.flash.specs.declared.state.Given.{Given}
-use Rattle.flash.specs.declared.state.Kind.{Kind}
+use Rattle.flash_calls.specs.declared.given.Given.{Given}
+use Rattle.flash_calls.specs.declared.call.Kind.{Kind}
 use Rattle.flash.specs.declared.state.Stepped.{Stepped}
 
 abbrev pub notBuilt : Kind → Flash
@@ -71,18 +71,18 @@ beginOf (Flash.Nand flash) call s b d = nandBegun flash call s b d
 
 -- ---- a reply
 
-abbrev pub norMoved : Moved norState.Stepped → Moved Stepped
-norMoved m = movedTo (norStepped (m .stepped)) (m .scratch) (m .buffer)
+abbrev pub norMoved : AfterStep norState.Stepped → AfterStep Stepped
+norMoved m = steppedTo (norStepped (m .stepped)) (m .scratch) (m .buffer)
 
-abbrev pub nandMoved : Moved nandState.Stepped → Moved Stepped
-nandMoved m = movedTo (nandStepped (m .stepped)) (m .scratch) (m .buffer)
+abbrev pub nandMoved : AfterStep nandState.Stepped → AfterStep Stepped
+nandMoved m = steppedTo (nandStepped (m .stepped)) (m .scratch) (m .buffer)
 
-unfoldable pub norMovedOf : SpiNorFlash → Reply → List ℕ → List ℕ → List ℕ → List ℕ → Moved Stepped
+unfoldable pub norMovedOf : SpiNorFlash → Reply → List ℕ → List ℕ → List ℕ → List ℕ → AfterStep Stepped
 norMovedOf flash reply bytes scratch buffer lent = norMoved (norStep.stepOf flash reply bytes scratch buffer lent)
 
-unfoldable pub nandMovedOf : SpiNandFlash → Reply → List ℕ → List ℕ → List ℕ → List ℕ → Moved Stepped
+unfoldable pub nandMovedOf : SpiNandFlash → Reply → List ℕ → List ℕ → List ℕ → List ℕ → AfterStep Stepped
 nandMovedOf flash reply bytes scratch buffer lent = nandMoved (nandStep.stepOf flash reply bytes scratch buffer lent)
 
-unfoldable pub stepOf : Flash → Reply → List ℕ → List ℕ → List ℕ → List ℕ → Moved Stepped
+unfoldable pub stepOf : Flash → Reply → List ℕ → List ℕ → List ℕ → List ℕ → AfterStep Stepped
 stepOf (Flash.Nor flash) reply bytes scratch buffer lent = norMovedOf flash reply bytes scratch buffer lent
 stepOf (Flash.Nand flash) reply bytes scratch buffer lent = nandMovedOf flash reply bytes scratch buffer lent

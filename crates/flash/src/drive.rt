@@ -1,17 +1,17 @@
 // Calls and replies handed to whichever driver it is.
-use crate::state::Answer;
-use crate::state::Call;
 use crate::state::Flash;
-use crate::state::Given;
-use crate::state::Kind;
 use crate::state::Stepped;
+use flash_calls::call::Call;
+use flash_calls::call::Kind;
+use flash_calls::given::Answer;
+use flash_calls::given::Given;
 use nand_driver::state::SpiNandFlash;
 use nor_driver::state::SpiNorFlash;
 use qspi::bus::Reply;
 use spi_flash::error::FlashError;
 ghost use mathlib.Core.Path.{_≡_};
 ghost use lib.ListN.{length};
-ghost use Rattle.flash.specs.Drive.{notBuilt, refusedOf, countOf, norGiven, nandGiven, norStepped, nandStepped, norBegun, nandBegun, beginOf, movedTo, norMovedOf, nandMovedOf, stepOf};
+ghost use Rattle.flash.specs.Drive.{notBuilt, refusedOf, countOf, norGiven, nandGiven, norStepped, nandStepped, norBegun, nandBegun, beginOf, steppedTo, norMovedOf, nandMovedOf, stepOf};
 
 // A driver before any construction.
 pub fn not_built(kind: Kind) -> Flash
@@ -137,7 +137,7 @@ fn nor_step(
     buffer: &mut [u8],
     data: &[u8],
 ) -> Stepped
-    ensures { λ r. ⌜ movedTo r (now (scratch .exit)) (now (buffer .exit)) ≡ norMovedOf flash reply (now (bytes .entry)) (now (scratch .entry)) (now (buffer .entry)) (now («data» .entry)) ⌝ }
+    ensures { λ r. ⌜ steppedTo r (now (scratch .exit)) (now (buffer .exit)) ≡ norMovedOf flash reply (now (bytes .entry)) (now (scratch .entry)) (now (buffer .entry)) (now («data» .entry)) ⌝ }
 {
     nor_stepped(nor_reply::step::step(flash, reply, bytes, scratch, buffer, data))
 }
@@ -150,7 +150,7 @@ fn nand_step(
     buffer: &mut [u8],
     data: &[u8],
 ) -> Stepped
-    ensures { λ r. ⌜ movedTo r (now (scratch .exit)) (now (buffer .exit)) ≡ nandMovedOf flash reply (now (bytes .entry)) (now (scratch .entry)) (now (buffer .entry)) (now («data» .entry)) ⌝ }
+    ensures { λ r. ⌜ steppedTo r (now (scratch .exit)) (now (buffer .exit)) ≡ nandMovedOf flash reply (now (bytes .entry)) (now (scratch .entry)) (now (buffer .entry)) (now («data» .entry)) ⌝ }
 {
     nand_stepped(nand_reply::step::step(flash, reply, bytes, scratch, buffer, data))
 }
@@ -164,7 +164,7 @@ pub fn step(
     buffer: &mut [u8],
     data: &[u8],
 ) -> Stepped
-    ensures { λ r. ⌜ movedTo r (now (scratch .exit)) (now (buffer .exit)) ≡ stepOf flash reply (now (bytes .entry)) (now (scratch .entry)) (now (buffer .entry)) (now («data» .entry)) ⌝ }
+    ensures { λ r. ⌜ steppedTo r (now (scratch .exit)) (now (buffer .exit)) ≡ stepOf flash reply (now (bytes .entry)) (now (scratch .entry)) (now (buffer .entry)) (now («data» .entry)) ⌝ }
 {
     match flash {
         Flash::Nor(nor) => return nor_step(nor, reply, bytes, scratch, buffer, data),

@@ -1,4 +1,3 @@
 // Either driver as one machine that the host steps.
-pub mod answer;
 pub mod drive;
 pub mod state;

@@ -1,38 +1,11 @@
-// Either driver's state, its calls and what a step gives.
+// Either driver's state, and what a step comes to.
+use flash_calls::given::Given;
 use nand_driver::state::SpiNandFlash;
 use nor_driver::state::SpiNorFlash;
-use qspi::bus::Action;
-use spi_flash::error::FlashError;
-
-pub enum Kind {
-    Nor,
-    Nand,
-}
 
 pub enum Flash {
     Nor(SpiNorFlash),
     Nand(SpiNandFlash),
-}
-
-pub enum Call {
-    Nor(nor_phases::call::Call),
-    Nand(nand_phases::call::Call),
-}
-
-// What a call that succeeds answers.
-pub enum Answer {
-    Nor(nor_answers::answer::Answer),
-    Nand(nand_answers::answer::Answer),
-}
-
-pub enum Given {
-    Act(Action),
-    // The call has succeeded.
-    Ended(Answer),
-    // A call that had begun has failed.
-    Failed(FlashError),
-    // Turned away: nothing has changed.
-    Refused(FlashError),
 }
 
 pub struct Stepped {

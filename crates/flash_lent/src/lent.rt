@@ -1,8 +1,8 @@
 // A driver's calls and steps, with what a call lends at the beginning of the room.
 use flash::drive;
-use flash::state::Call;
 use flash::state::Flash;
 use flash::state::Stepped;
+use flash_calls::call::Call;
 use flash_words::asked::Ask;
 use qspi::bus::Reply;
 use qspi::bytes;
@@ -11,12 +11,12 @@ use spi_flash::loan::Takes;
 use trace_words::loan;
 ghost use mathlib.Core.List.{[]};
 ghost use mathlib.Core.Path.{_≡_};
-ghost use Rattle.flash.specs.Drive.{movedTo};
+ghost use Rattle.flash.specs.Drive.{steppedTo};
 ghost use Rattle.flash_lent.specs.Lent.{begunOver, noneOver, bufferOver, dataOver, answeredOver, askedOver};
 
 // Hands a call to the driver, its loan being laid.
 fn begin<'a>(flash: Flash, call: Call, takes: Takes, scratch: &'a [u8], room: &'a [u8]) -> Stepped
-    ensures { λ r. ⌜ movedTo r (now (scratch .entry)) (now (room .entry)) ≡ begunOver flash call takes (now (scratch .entry)) (now (room .entry)) ⌝ }
+    ensures { λ r. ⌜ steppedTo r (now (scratch .entry)) (now (room .entry)) ≡ begunOver flash call takes (now (scratch .entry)) (now (room .entry)) ⌝ }
 {
     drive::begin(
         flash,
@@ -30,7 +30,7 @@ fn begin<'a>(flash: Flash, call: Call, takes: Takes, scratch: &'a [u8], room: &'
 // ---- a reply to the action that is out
 
 fn with_none(flash: Flash, reply: Reply, bytes: &[u8], scratch: &mut [u8]) -> Stepped
-    ensures { λ r. ⌜ movedTo r (now (scratch .exit)) [] ≡ noneOver flash reply (now (bytes .entry)) (now (scratch .entry)) [] ⌝ }
+    ensures { λ r. ⌜ steppedTo r (now (scratch .exit)) [] ≡ noneOver flash reply (now (bytes .entry)) (now (scratch .entry)) [] ⌝ }
 {
     let mut buffer = [0u8; 0];
     let data = [0u8; 0];
@@ -46,7 +46,7 @@ fn with_buffer(
     scratch: &mut [u8],
     room: &mut [u8],
 ) -> Stepped
-    ensures { λ r. ⌜ movedTo r (now (scratch .exit)) (now (room .exit)) ≡ bufferOver flash reply (now (bytes .entry)) n (now (scratch .entry)) (now (room .entry)) ⌝ }
+    ensures { λ r. ⌜ steppedTo r (now (scratch .exit)) (now (room .exit)) ≡ bufferOver flash reply (now (bytes .entry)) n (now (scratch .entry)) (now (room .entry)) ⌝ }
 {
     let data = [0u8; 0];
     if n <= room.len() {
@@ -63,7 +63,7 @@ fn with_data(
     scratch: &mut [u8],
     room: &[u8],
 ) -> Stepped
-    ensures { λ r. ⌜ movedTo r (now (scratch .exit)) (now (room .entry)) ≡ dataOver flash reply (now (bytes .entry)) n (now (scratch .entry)) (now (room .entry)) ⌝ }
+    ensures { λ r. ⌜ steppedTo r (now (scratch .exit)) (now (room .entry)) ≡ dataOver flash reply (now (bytes .entry)) n (now (scratch .entry)) (now (room .entry)) ⌝ }
 {
     let mut buffer = [0u8; 0];
     drive::step(
@@ -85,7 +85,7 @@ fn answered(
     scratch: &mut [u8],
     room: &mut [u8],
 ) -> Stepped
-    ensures { λ r. ⌜ movedTo r (now (scratch .exit)) (now (room .exit)) ≡ answeredOver flash reply (now (bytes .entry)) takes (now (scratch .entry)) (now (room .entry)) ⌝ }
+    ensures { λ r. ⌜ steppedTo r (now (scratch .exit)) (now (room .exit)) ≡ answeredOver flash reply (now (bytes .entry)) takes (now (scratch .entry)) (now (room .entry)) ⌝ }
 {
     match takes {
         Takes::Nothing => return with_none(flash, reply, bytes, scratch),
@@ -103,7 +103,7 @@ pub fn asked(
     room: &mut [u8],
     reply: &[u8],
 ) -> Stepped
-    ensures { λ r. ⌜ movedTo r (now (scratch .exit)) (now (room .exit)) ≡ askedOver stepped ask (now (scratch .entry)) (now (room .entry)) (now (reply .entry)) ⌝ }
+    ensures { λ r. ⌜ steppedTo r (now (scratch .exit)) (now (room .exit)) ≡ askedOver stepped ask (now (scratch .entry)) (now (room .entry)) (now (reply .entry)) ⌝ }
 {
     let flash = stepped.flash;
     match ask {

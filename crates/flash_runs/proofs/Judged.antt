@@ -16,7 +16,6 @@ use Rattle.frames.specs.Frame.{firstOf, actionOf, exchangeOf, advancedOf, taken
 use Rattle.frames.specs.declared.frame.Advanced.{Advanced}
 use Rattle.spi_flash.specs.Entry.{entryOf}
 use Rattle.spi_flash.specs.Beginning as Beginning
-use Rattle.spi_flash.specs.Replying as Replying
 use Rattle.spi_flash.specs.Settling as Settling
 use Rattle.spi_flash.specs.Loan.{Lent, readyFor, exchangeFor}
 use Rattle.spi_flash.specs.Run as Run

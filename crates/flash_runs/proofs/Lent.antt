@@ -12,6 +12,7 @@ use Rattle.frames.specs.declared.frame.Outcome.{Outcome}
 use Rattle.frames.specs.declared.frame.Stage.{Stage}
 use Rattle.spi_flash.specs.Settling as Settling
 use Rattle.spi_flash.specs.Loan.{Lent}
+use Rattle.spi_flash.specs.Machine.{more}
 use Rattle.spi_flash.specs.Path.{Bounded}
 use Rattle.spi_flash.specs.Prog.{Prog, ask}
 use Rattle.spi_flash.specs.Run.{Event, stateAfter}
@@ -23,12 +24,15 @@ use Rattle.spi_flash.proofs.Unread.{bufferReads, keeps-buffer}
 use Rattle.flash_runs.specs.Driver.{Left, takesBuffer, Driver, takesAt, programAt, runAt, flashAfter}
 use Rattle.flash_runs.specs.Promises.{Demand1}
 use Rattle.flash_runs.specs.Reading.{bytesRead, ChangesRead, HoldsRead}
+use Rattle.flash_runs.specs.Scratch.{PutsOver}
+use Rattle.flash_runs.specs.Watch.{closed}
 use Rattle.flash_runs.proofs.General.{Parts, Place, decideNext, settled, general}
 use Rattle.flash_runs.proofs.Filling.{Fills, first-filling}
 use Rattle.flash_runs.proofs.Buffer.{changes-read, holds-read}
 use Rattle.flash_runs.proofs.Supplies.{LendsAs, Supplies, Known}
 use Rattle.flash_runs.proofs.Runs.{same-run, same-state}
 use Rattle.flash_runs.proofs.Delivered.{counts}
+use Rattle.flash_runs.proofs.Scratch.{settled-puts, puts-over}
 use Rattle.flash_runs.proofs.Views.{true≢false, shape, Opens, Nothing-begun, view, begun-opens, no-run, opens-steps, opens-run}
 
 module _ {F C S A : Type 0} {driver : Driver F C S A} (known : Known driver) (flash : F) (c : C) (l : Lent) (es : List (Event C)) where
@@ -151,6 +155,17 @@ module _ {F C S A : Type 0} {driver : Driver F C S A} (known : Known driver) (fl
           (ends-high (decideNext parts) (takesAt driver c l) (o .at) (firstOf (o .first)) es (selectAfter shown false)
           (subst (Raised Stage.Start (o .first)) (sym same) (first-raised (o .first) (l .scratch) (l .given))))
 
+  -- ---- the scratch
+
+  puts : PutsOver closed (runAt driver flash c l es)
+  unfolding PutsOver
+  puts = ⊎-elim (λ n. rw (nothing n) tt) opened begins
+    where
+      opened : Opened → PutsOver closed (runAt driver flash c l es)
+      opened o =
+          let steps = settled-puts (decideNext parts) (takesAt driver c l) es (puts-over (decideNext parts) (takesAt driver c l) es) in
+          rw (opens-run known flash o es) (steps (more (o .first) (o .at)) closed l (l .buffer))
+
 module _ {F C S A : Type 0} {driver : Driver F C S A} (known : Known driver) where
   pub demand1 : Demand1 driver
   demand1 = record {
@@ -160,5 +175,6 @@ module _ {F C S A : Type 0} {driver : Driver F C S A} (known : Known driver) whe
         known .is .shows (flashAfter driver flash c l es) buffer
         ∙ ap (λ n. take n buffer) (opened-delivers known flash c l es own (begun-opens known flash c l h));
     keeps = kept known;
+    scratch = puts known;
     endsHigh = high-at-end known;
   }

@@ -14,6 +14,7 @@ pub mod Refusals
 pub mod LeftBehind
 pub mod SameAsRust
 pub mod Delivered
+pub mod Scratch
 pub mod Bills
 pub mod Lent
 pub mod Judged

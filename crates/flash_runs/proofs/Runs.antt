@@ -9,7 +9,6 @@ use Rattle.qspi.specs.Choice.{pick}
 use Rattle.frames.specs.Frame.{actionOf, exchangeOf, advancedOf, takenIn, gave, deliveredBy}
 use Rattle.qspi.specs.declared.bus.Reply.{Reply}
 use Rattle.frames.specs.declared.frame.Advanced.{Advanced}
-use Rattle.spi_flash.specs.Replying as Replying
 use Rattle.spi_flash.specs.Settling as Settling
 use Rattle.spi_flash.specs.Loan.{Lent, readyFor, exchangeFor}
 use Rattle.spi_flash.specs.Run.{Event, reply, call, Given, act, ended, failed, refused, Moved, System, entry, atOnce, goesOn, begunWith, runOf, callOf, stateAfter}

@@ -11,7 +11,6 @@ use Rattle.frames.specs.declared.frame.Advanced.{Advanced}
 use Rattle.frames.specs.declared.frame.Exchanged.{Exchanged}
 use Rattle.frames.specs.declared.frame.Frame.{Frame}
 use Rattle.frames.specs.declared.frame.Outcome.{Outcome}
-use Rattle.spi_flash.specs.Replying as Replying
 use Rattle.spi_flash.specs.Loan.{Lent, readyFor, exchangeFor}
 use Rattle.spi_flash.specs.Machine.{lentAs, refusing}
 use Rattle.spi_flash.specs.declared.error.FlashError.{FlashError}

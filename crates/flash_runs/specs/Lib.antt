@@ -2,8 +2,9 @@ pub mod Driver
 pub mod System
 pub mod Weight
 pub mod Reading
+pub mod Watch
+pub mod Scratch
 pub mod SameAsRust
 pub mod Refusals
 pub mod Promises
-pub mod Watch
 pub mod Shams

@@ -16,6 +16,8 @@ use Rattle.flash_runs.specs.Driver.{Left, Driver, takesBuffer, takesAt, 
 use Rattle.flash_runs.specs.Reading.{bytesRead, ChangesRead, HoldsRead}
 use Rattle.flash_runs.specs.Refusals.{RefusesJust}
 use Rattle.flash_runs.specs.SameAsRust.{Demand2}
+use Rattle.flash_runs.specs.Scratch.{PutsOver}
+use Rattle.flash_runs.specs.Watch.{closed}
 
 -- a call has begun when it gives out its first action
 abbrev pub GivesAction : {A : Type 0} → Given A → Type 0
@@ -93,6 +95,9 @@ module _ {F C S A : Type 0} (driver : Driver F C S A) where
         driver .delivered (flashAfter driver flash call l es) buffer ≡ take (length (bytesRead (driver .reads) false (runAt driver flash call l es))) buffer
     -- no other call changes the buffer
     pub keeps : (flash : F) (call : C) (l : Lent) (es : List (Event C)) → takesBuffer (takesAt driver call l) ≡ false → KeepsBuffer (runAt driver flash call l es)
+    -- "A command is put at its start in the step that gives it out; filler and marker likewise"; "Other bytes keep their content", and
+    -- so do the caller's data
+    pub scratch : (flash : F) (call : C) (l : Lent) (es : List (Event C)) → PutsOver closed (runAt driver flash call l es)
     -- "After a bus error select goes high and the call ends": every call ends with select high, whatever it was before
     pub endsHigh : (flash : F) (call : C) (l : Lent) (es : List (Event C)) → EndsHigh false (runAt driver flash call l es)
 

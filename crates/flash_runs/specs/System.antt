@@ -40,11 +40,11 @@ module _ {F S P A G : Type 0} (shape : Shape F S P A G) where
   abbrev pub leftWith : G → Lent → Moved F (Left S A)
   leftWith x l = record { given = shownAs (lastOf x) (l .scratch) (l .given); flash = shape .after x; left = l }
 
-  abbrev pub movedAs : Replying.Moved G → Lent → Moved F (Left S A)
+  abbrev pub movedAs : Replying.AfterStep G → Lent → Moved F (Left S A)
   movedAs m l = leftWith (m .stepped) (lentAs (m .scratch) (m .buffer) l)
 
   -- `begin`, which changes nothing that is lent, and `step`
-  abbrev pub systemOf : {C : Type 0} → (F → C → ℕ → ℕ → ℕ → G) → (F → Reply → List ℕ → List ℕ → List ℕ → List ℕ → Replying.Moved G) → System F C (Left S A)
+  abbrev pub systemOf : {C : Type 0} → (F → C → ℕ → ℕ → ℕ → G) → (F → Reply → List ℕ → List ℕ → List ℕ → List ℕ → Replying.AfterStep G) → System F C (Left S A)
   systemOf begin step =
       record {
         begin = λ flash call l. leftWith (begin flash call (length (l .scratch)) (length (l .buffer)) (length (l .given))) l;

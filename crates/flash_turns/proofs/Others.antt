@@ -5,8 +5,8 @@ use mathlib.Core.List.{[], _∷_}
 use mathlib.Core.Path.{_≡_, refl}
 use Rattle.spi_flash.specs.declared.loan.Takes.{Takes}
 use Rattle.trace_turns.specs.Place.{endMode}
-use Rattle.flash.specs.declared.state.Given.{Given}
-use Rattle.flash.proofs.state.Given as given
+use Rattle.flash_calls.specs.declared.given.Given.{Given}
+use Rattle.flash_calls.proofs.given.Given as given
 use Rattle.flash_words.specs.declared.asked.Ask.{Ask}
 use Rattle.flash_words.proofs.asked.Ask as ask
 use Rattle.trace_turns.specs.declared.place.Place.{Place}

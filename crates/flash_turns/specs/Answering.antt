@@ -1,7 +1,7 @@
 -- A turn that answers the action that is out.
 use Prim.Native.Nat.{ℕ}
 use mathlib.Core.List.{List}
-use Rattle.flash.specs.declared.state.Given.{Given}
+use Rattle.flash_calls.specs.declared.given.Given.{Given}
 use Rattle.flash_words.specs.declared.asked.Ask.{Ask}
 use Rattle.trace_turns.specs.Place.{gaveTo}
 use Rattle.trace_turns.specs.declared.place.Place.{Place}

@@ -3,7 +3,7 @@ use Prim.Native.Nat.{ℕ}
 use mathlib.Core.List.{List}
 use Rattle.lines.specs.Text.{Text, appended}
 use Rattle.spi_flash.specs.declared.loan.Takes.{Takes}
-use Rattle.flash.specs.declared.state.Given.{Given}
+use Rattle.flash_calls.specs.declared.given.Given.{Given}
 use Rattle.flash_words.specs.End.{givenLines}
 use Rattle.trace_turns.specs.Place.{endMode, countedOf, inMode}
 use Rattle.trace_turns.specs.Show.{ShownAt, shownTo}

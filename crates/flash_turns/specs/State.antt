@@ -1,7 +1,7 @@
 -- Where a turn leaves a trace, and what it asks of the driver.
 use Prim.Native.Nat.{ℕ}
 use mathlib.Core.Bool.{Bool, true, false}
-use Rattle.flash.specs.declared.state.Given.{Given}
+use Rattle.flash_calls.specs.declared.given.Given.{Given}
 use Rattle.flash_words.specs.declared.asked.Ask.{Ask}
 use Rattle.trace_turns.specs.Place.{startedOf}
 use Rattle.trace_turns.specs.declared.place.Place.{Place}

@@ -3,7 +3,7 @@ use Prim.Native.Nat.{ℕ}
 use mathlib.Core.List.{List}
 use lib.ListN.{length}
 use Rattle.lines.specs.Text.{Text}
-use Rattle.flash.specs.declared.state.Given.{Given}
+use Rattle.flash_calls.specs.declared.given.Given.{Given}
 use Rattle.flash_words.specs.declared.asked.Ask.{Ask}
 use Rattle.trace_turns.specs.Show.{ShownAt, showingOf, badOf}
 use Rattle.trace_turns.specs.declared.place.Mode.{Mode}

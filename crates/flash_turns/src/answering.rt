@@ -2,7 +2,7 @@
 use dialect::hears;
 use dialect::hears::Hears;
 use dialect::settings::Settings;
-use flash::state::Given;
+use flash_calls::given::Given;
 use flash_words::asked::Ask;
 use trace_turns::place;
 use trace_turns::place::Place;

@@ -1,5 +1,5 @@
 // A turn that prints what the driver has given.
-use flash::state::Given;
+use flash_calls::given::Given;
 use flash_words::end;
 use spi_flash::loan::Takes;
 use trace_turns::place;

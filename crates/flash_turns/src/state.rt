@@ -1,6 +1,6 @@
 // Where a turn leaves a trace, and what it asks of the driver.
 use dialect::settings::Settings;
-use flash::state::Given;
+use flash_calls::given::Given;
 use flash_words::asked::Ask;
 use trace_turns::place;
 use trace_turns::place::Place;

@@ -6,7 +6,7 @@ use crate::reading;
 use crate::state;
 use crate::state::Turn;
 use dialect::settings::Settings;
-use flash::state::Given;
+use flash_calls::given::Given;
 use flash_words::asked::Ask;
 use trace_turns::place::Mode;
 use trace_turns::place::Place;

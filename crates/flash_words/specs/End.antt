@@ -8,9 +8,9 @@ use Rattle.spi_flash.specs.declared.error.FlashError.{FlashError}
 use Rattle.spi_flash.specs.declared.loan.Takes.{Takes}
 use Rattle.trace_words.specs.Loan.{dataOf}
 use Rattle.trace_words.specs.Print.{countLine, valuesLine}
-use Rattle.flash.specs.Answer.{answerValues}
-use Rattle.flash.specs.declared.state.Answer.{Answer}
-use Rattle.flash.specs.declared.state.Given.{Given}
+use Rattle.flash_calls.specs.Answer.{answerValues}
+use Rattle.flash_calls.specs.declared.given.Answer.{Answer}
+use Rattle.flash_calls.specs.declared.given.Given.{Given}
 
 -- "E n, document 01's number: 0 is success", then "V and the values of the answer"
 unfoldable pub endedLines : Answer → List ℕ

@@ -1,5 +1,5 @@
 // What the line of a call asks for, and what a turn asks of the driver.
-use flash::state::Call;
+use flash_calls::call::Call;
 use qspi::bus::Reply;
 use spi_flash::error::FlashError;
 use spi_flash::loan::Takes;

@@ -1,6 +1,6 @@
 // The lines of what a driver gives: an action, or a call's end with its number, its values and how much was delivered.
-use flash::state::Answer;
-use flash::state::Given;
+use flash_calls::given::Answer;
+use flash_calls::given::Given;
 use lines::line;
 use lines::text;
 use spi_flash::error::FlashError;
@@ -9,7 +9,7 @@ use trace_words::loan;
 use trace_words::print;
 ghost use mathlib.Core.Path.{_≡_};
 ghost use Rattle.lines.specs.Text.{textOf, appended};
-ghost use Rattle.flash.specs.Answer.{answerValues};
+ghost use Rattle.flash_calls.specs.Answer.{answerValues};
 ghost use Rattle.trace_words.specs.Print.{valuesLine};
 ghost use Rattle.flash_words.specs.End.{endedLines, failedLines, givenLines};
 

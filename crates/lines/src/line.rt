@@ -2,11 +2,10 @@
 use crate::text;
 use qspi::bus::Action;
 use qspi::bytes;
-ghost use Prim.Native.Nat.{_+_};
 ghost use mathlib.Core.List.{[], _∷_, _++_};
 ghost use mathlib.Core.Path.{_≡_};
 ghost use Rattle.qspi.specs.Shown.{shownOf};
-ghost use Rattle.lines.specs.Text.{textOf, appended, hexOf, decimalOf};
+ghost use Rattle.lines.specs.Text.{textOf, appended, hexOf};
 ghost use Rattle.lines.specs.Line.{fieldOf, quadReadLine, quadWriteLine, lineOf, endLine};
 
 const LOW: u8 = 76;

@@ -1,6 +1,5 @@
 // Characters, bytes in hexadecimal and numbers in decimal, put into a slice one behind the other.
 ghost use mathlib.Core.Path.{_≡_};
-ghost use lib.ListN.{drop};
 ghost use Rattle.lines.specs.Text.{textOf, putOf, appended, digitOf, hexByte, hexOf, decimalOf};
 
 pub const BLANK: u8 = 32;

@@ -22,11 +22,11 @@ use Rattle.nand_phases.specs.declared.phase.RegisterFor.{RegisterFor}
 use Rattle.nand_phases.specs.declared.phase.ResetFor.{ResetFor}
 use Rattle.nand_phases.specs.declared.phase.Task.{Task}
 use Rattle.nand_phases.specs.declared.setup.Setup.{Setup}
-use Rattle.nand_pages.specs.Block.{markerThen, fillFrom, filledThen, markThen}
+use Rattle.nand_ranges.specs.Block.{markerThen, fillFrom, filledThen, markThen}
 use Rattle.nand_pages.specs.Cache.{comparedThen, loadProgramThen}
 use Rattle.nand_steps.specs.Go.{endWith, done, look, send, reset}
 use Rattle.nand_pages.specs.Page.{programThen}
-use Rattle.nand_pages.specs.Read.{pieceReadThen}
+use Rattle.nand_ranges.specs.Read.{pieceReadThen}
 use Rattle.nand_steps.specs.Register.{idOf, identifiedThen, configureThen, checkConfiguration, unprotectThen, broughtUp, disableQuad, quadDisabled}
 use Rattle.nand_steps.specs.declared.then.Then.{Then}
 use Rattle.nand_next.specs.Wait.{waitingThen}

@@ -14,7 +14,7 @@ use Rattle.nand_phases.specs.declared.phase.Task.{Task}
 use Rattle.nand_phases.specs.declared.phase.WaitStep.{WaitStep}
 use Rattle.nand_phases.specs.declared.setup.Setup.{Setup}
 use Rattle.nand_steps.specs.Go.{goTo, done, askId, look, verdict}
-use Rattle.nand_pages.specs.Block.{erasedThen}
+use Rattle.nand_ranges.specs.Block.{erasedThen}
 use Rattle.nand_pages.specs.Page.{loadedThen, judgedThen, programmedThen}
 use Rattle.nand_steps.specs.Register.{writtenThen}
 use Rattle.nand_steps.specs.declared.then.Then.{Then}

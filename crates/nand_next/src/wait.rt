@@ -1,5 +1,4 @@
 // wait_ready: the pauses and looks behind a command, and what they are for.
-use nand_pages::block;
 use nand_pages::page;
 use nand_phases::phase::Phase;
 use nand_phases::phase::ResetFor;
@@ -7,6 +6,7 @@ use nand_phases::phase::Task;
 use nand_phases::phase::WaitStep;
 use nand_phases::setup::Setup;
 use nand_phases::transfer;
+use nand_ranges::block;
 use nand_steps::go;
 use nand_steps::register;
 use nand_steps::then::Then;

@@ -18,11 +18,11 @@ use Rattle.nand_phases.specs.declared.phase.ProgramFor.{ProgramFor}
 use Rattle.nand_phases.specs.declared.phase.RegisterFor.{RegisterFor}
 use Rattle.nand_phases.specs.declared.phase.ResetFor.{ResetFor}
 use Rattle.nand_phases.specs.declared.setup.Setup.{Setup}
-use Rattle.nand_pages.specs.Block.{eraseThen}
+use Rattle.nand_ranges.specs.Block.{eraseThen}
 use Rattle.nand_pages.specs.Cache.{readCacheThen, loadProgramThen}
 use Rattle.nand_steps.specs.Go.{ask, askId, reset, enable}
 use Rattle.nand_pages.specs.Page.{pageReadThen, isBadThen, programThen, readPageThen, writePageThen}
-use Rattle.nand_pages.specs.Read.{readThen}
+use Rattle.nand_ranges.specs.Read.{readThen}
 use Rattle.nand_steps.specs.declared.then.Then.{Then}
 use Rattle.nand_opening.specs.declared.opening.Opening.{Opening}
 

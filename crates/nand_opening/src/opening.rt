@@ -1,9 +1,7 @@
 // How each call begins.
 use nand_answers::answer::Answer;
-use nand_pages::block;
 use nand_pages::cache;
 use nand_pages::page;
-use nand_pages::read;
 use nand_phases::call::Call;
 use nand_phases::phase::Asked;
 use nand_phases::phase::EnableFor;
@@ -15,6 +13,8 @@ use nand_phases::phase::ProgramFor;
 use nand_phases::phase::RegisterFor;
 use nand_phases::phase::ResetFor;
 use nand_phases::setup::Setup;
+use nand_ranges::block;
+use nand_ranges::read;
 use nand_steps::go;
 use nand_steps::then::Then;
 use qspi::transfer::Payload;
@@ -24,11 +24,11 @@ use spi_nand::config::SpiNandConfig;
 use spi_nand::opcode;
 ghost use mathlib.Core.Path.{_≡_};
 ghost use Rattle.nand_phases.specs.BringUp.{itsOwn};
-ghost use Rattle.nand_pages.specs.Block.{eraseThen};
+ghost use Rattle.nand_ranges.specs.Block.{eraseThen};
 ghost use Rattle.nand_pages.specs.Cache.{readCacheThen, loadProgramThen};
 ghost use Rattle.nand_steps.specs.Go.{ask, askId, reset, enable};
 ghost use Rattle.nand_pages.specs.Page.{pageReadThen, isBadThen, programThen, readPageThen, writePageThen};
-ghost use Rattle.nand_pages.specs.Read.{readThen};
+ghost use Rattle.nand_ranges.specs.Read.{readThen};
 ghost use Rattle.nand_opening.specs.Opening.{plain, filling, sending, openingOf};
 
 // What a call is to a driver at rest.

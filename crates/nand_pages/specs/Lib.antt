@@ -1,4 +1,2 @@
 pub mod Cache
 pub mod Page
-pub mod Read
-pub mod Block

@@ -1,5 +1,3 @@
-// Pages and blocks of SpiNandFlash (nand/driver.rs), cut where they use the bus.
-pub mod block;
+// Pages of SpiNandFlash (nand/driver.rs), cut where they use the bus: the cache, loads and programs.
 pub mod cache;
 pub mod page;
-pub mod read;

@@ -4,7 +4,7 @@ use mathlib.Core.List.{List}
 use Rattle.qspi.specs.declared.bus.Reply.{Reply}
 use Rattle.frames.specs.declared.frame.Outcome.{Outcome}
 use Rattle.spi_flash.specs.Replying.{steps, deliveredIn}
-pub use Rattle.spi_flash.specs.Replying.{Moved, movedTo}
+pub use Rattle.spi_flash.specs.Replying.{AfterStep, steppedTo}
 use Rattle.spi_flash.specs.Shape as Shape
 use Rattle.nand_answers.specs.declared.answer.Answer.{Answer}
 use Rattle.nand_phases.specs.declared.phase.Phase.{Phase}
@@ -18,7 +18,7 @@ use Rattle.nand_driver.specs.declared.state.Stepped.{Stepped}
 abbrev pub nandNext : Setup → Phase → Outcome → Shape.Then Setup Phase Answer
 nandNext setup phase outcome = thenAs (nextOf setup phase outcome)
 
-abbrev pub stepOf : SpiNandFlash → Reply → List ℕ → List ℕ → List ℕ → List ℕ → Moved Stepped
+abbrev pub stepOf : SpiNandFlash → Reply → List ℕ → List ℕ → List ℕ → List ℕ → AfterStep Stepped
 stepOf = steps nandShape nandNext
 
 abbrev pub deliveredPart : SpiNandFlash → List ℕ → List ℕ

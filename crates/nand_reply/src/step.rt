@@ -14,10 +14,9 @@ use qspi::bus::Reply;
 use spi_flash::error::FlashError;
 use spi_flash::loan;
 ghost use mathlib.Core.Path.{_≡_};
-ghost use lib.ListN.{length};
 ghost use Rattle.spi_flash.specs.Replying.{gave, over, exchanged};
 ghost use Rattle.nand_driver.specs.Settle.{jobAs, nandShape};
-ghost use Rattle.nand_reply.specs.Step.{nandNext, movedTo, stepOf, deliveredPart};
+ghost use Rattle.nand_reply.specs.Step.{nandNext, steppedTo, stepOf, deliveredPart};
 
 // Another action of the transfer that is out.
 fn gave(flash: SpiNandFlash, job: Job, next: Frame, delivered: usize, action: Action) -> Stepped
@@ -61,7 +60,7 @@ pub fn step(
     buffer: &mut [u8],
     data: &[u8],
 ) -> Stepped
-    ensures { λ r. ⌜ movedTo r (now (scratch .exit)) (now (buffer .exit)) ≡ stepOf flash reply (now (bytes .entry)) (now (scratch .entry)) (now (buffer .entry)) (now («data» .entry)) ⌝ }
+    ensures { λ r. ⌜ steppedTo r (now (scratch .exit)) (now (buffer .exit)) ≡ stepOf flash reply (now (bytes .entry)) (now (scratch .entry)) (now (buffer .entry)) (now («data» .entry)) ⌝ }
 {
     let running = flash.running;
     let Running::Busy(job) = running else {

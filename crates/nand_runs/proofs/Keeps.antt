@@ -42,8 +42,8 @@ use Rattle.nand_steps.specs.Register.{idOf, geometryAt, geometryFor, wantedFor,
 use Rattle.nand_pages.specs.Cache.{readCacheThen, pieceThen, comparedThen, loadProgramThen, payloadLength}
 use Rattle.nand_phases.specs.Verdict.{asksVerdict}
 use Rattle.nand_pages.specs.Page.{uncorrectable, pageReadThen, isBadThen, acceptedThen, loadedThen, judgedThen, programThen, afterProgram, programmedThen, readPageThen, writePageThen}
-use Rattle.nand_pages.specs.Read.{readFrom, readThen}
-use Rattle.nand_pages.specs.Block.{isBad, eraseThen, afterErase, erasedThen, markerThen, fillFrom}
+use Rattle.nand_ranges.specs.Read.{readFrom, readThen}
+use Rattle.nand_ranges.specs.Block.{isBad, eraseThen, afterErase, erasedThen, markerThen, fillFrom}
 use Rattle.nand_steps.specs.declared.then.Then.{Then}
 use Rattle.nand_steps.specs.Go.{goTo, endWith}
 use Rattle.nand_next.specs.Wait.{resetThen, resumeTask, judgeTask, waitThen, waitingThen}

@@ -34,8 +34,8 @@ use Rattle.nand_phases.specs.declared.setup.Setup.{Setup}
 use Rattle.nand_steps.specs.Go.{ask as askThen, askId, send, enable}
 use Rattle.nand_pages.specs.Cache.{readCacheThen, loadProgramThen}
 use Rattle.nand_pages.specs.Page.{pageReadThen, isBadThen, programThen, readPageThen, writePageThen}
-use Rattle.nand_pages.specs.Read.{readThen}
-use Rattle.nand_pages.specs.Block.{eraseThen}
+use Rattle.nand_ranges.specs.Read.{readThen}
+use Rattle.nand_ranges.specs.Block.{eraseThen}
 use Rattle.nand_rust.specs.Rust.{Nothing, wanted-of, read-status, read-configuration, read-protection, write-enable, write-register, disable-quad, reset, jedec-id, reset-and-identify, ensure-configuration, unprotect, page-read, read-cache, load-program-data, program-execute, read-page, write-page, erase-block, read, is-bad-block, filling, mark-bad-block}
 use Rattle.nand_rust.specs.Program.{Left}
 use Rattle.nand_runs.proofs.Places.{decide}

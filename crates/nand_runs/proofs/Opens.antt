@@ -30,8 +30,8 @@ use Rattle.nand_phases.specs.declared.setup.Setup.{Setup}
 use Rattle.nand_steps.specs.Go.{ask as askThen, askId, send, enable}
 use Rattle.nand_pages.specs.Cache.{readCacheThen, loadProgramThen, payloadLength}
 use Rattle.nand_pages.specs.Page.{pageReadThen, isBadThen, programThen, readPageThen, writePageThen}
-use Rattle.nand_pages.specs.Read.{readFrom, readThen}
-use Rattle.nand_pages.specs.Block.{eraseThen}
+use Rattle.nand_ranges.specs.Read.{readFrom, readThen}
+use Rattle.nand_ranges.specs.Block.{eraseThen}
 use Rattle.nand_steps.specs.declared.then.Then.{Then}
 use Rattle.nand_opening.specs.Opening.{openingOf}
 use Rattle.nand_rust.specs.Program.{programOf, rustProgram}

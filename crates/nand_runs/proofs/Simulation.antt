@@ -49,8 +49,8 @@ use Rattle.nand_steps.specs.Register.{idOf, geometryFor, wantedFor, withQuad, i
 use Rattle.nand_steps.specs.Go.{goTo, send, enable}
 use Rattle.nand_pages.specs.Cache.{within, readCacheThen, pieceThen, comparedThen, loadProgramThen}
 use Rattle.nand_pages.specs.Page.{loadThen, pageReadThen, isBadThen, acceptedThen, loadedThen, judgedThen, programThen, afterProgram, programmedThen}
-use Rattle.nand_pages.specs.Read.{readFrom}
-use Rattle.nand_pages.specs.Block.{eraseThen, afterErase, erasedThen, markerThen, fillFrom}
+use Rattle.nand_ranges.specs.Read.{readFrom}
+use Rattle.nand_ranges.specs.Block.{eraseThen, afterErase, erasedThen, markerThen, fillFrom}
 use Rattle.nand_steps.specs.declared.then.Then.{Then}
 use Rattle.nand_next.specs.Wait.{resetThen, resumeTask, judgeTask, waitThen, waitingThen}
 use Rattle.nand_next.specs.Next.{enabledThen, latchedThen, enablingThen, identifyThen, answeredThen, afterPhase, nextOf}

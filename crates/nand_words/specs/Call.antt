@@ -15,7 +15,7 @@ use Rattle.trace_words.specs.Request.{saidOf}
 use Rattle.trace_words.specs.declared.request.Form.{Form}
 use Rattle.trace_words.specs.declared.request.Request.{Request}
 use Rattle.nand_phases.specs.declared.call.Call.{Call}
-use Rattle.flash.specs.declared.state.Call as either
+use Rattle.flash_calls.specs.declared.call.Call as either
 use Rattle.flash_words.specs.declared.asked.Asked.{Asked}
 
 -- "geometry 2048 64 64 1024 NAND: page, spare, pages per block, blocks"

@@ -142,7 +142,7 @@ pub fn asked_by(line: &[u8], config: SpiNandConfig, room_len: usize) -> Asked
             second,
             takes,
         } => Asked::Begin {
-            call: flash::state::Call::Nand(call_of(k, config, first, second)),
+            call: flash_calls::call::Call::Nand(call_of(k, config, first, second)),
             takes,
         },
         Request::Bad => Asked::Bad,

@@ -16,7 +16,7 @@ use spi_flash::loan;
 ghost use mathlib.Core.Path.{_≡_};
 ghost use Rattle.spi_flash.specs.Replying.{gave, over, exchanged};
 ghost use Rattle.nor_driver.specs.Settle.{jobAs, norShape};
-ghost use Rattle.nor_reply.specs.Step.{norNext, movedTo, stepOf, deliveredPart};
+ghost use Rattle.nor_reply.specs.Step.{norNext, steppedTo, stepOf, deliveredPart};
 
 // Another action of the transfer that is out.
 fn gave(flash: SpiNorFlash, job: Job, next: Frame, delivered: usize, action: Action) -> Stepped
@@ -60,7 +60,7 @@ pub fn step(
     buffer: &mut [u8],
     data: &[u8],
 ) -> Stepped
-    ensures { λ r. ⌜ movedTo r (now (scratch .exit)) (now (buffer .exit)) ≡ stepOf flash reply (now (bytes .entry)) (now (scratch .entry)) (now (buffer .entry)) (now («data» .entry)) ⌝ }
+    ensures { λ r. ⌜ steppedTo r (now (scratch .exit)) (now (buffer .exit)) ≡ stepOf flash reply (now (bytes .entry)) (now (scratch .entry)) (now (buffer .entry)) (now («data» .entry)) ⌝ }
 {
     let running = flash.running;
     let Running::Busy(job) = running else {

@@ -14,7 +14,7 @@ use Rattle.trace_words.specs.Request.{saidOf}
 use Rattle.trace_words.specs.declared.request.Form.{Form}
 use Rattle.trace_words.specs.declared.request.Request.{Request}
 use Rattle.nor_phases.specs.declared.call.Call.{Call}
-use Rattle.flash.specs.declared.state.Call as either
+use Rattle.flash_calls.specs.declared.call.Call as either
 use Rattle.flash_words.specs.declared.asked.Asked.{Asked}
 
 -- "device 8388608 4096 65536 256 NOR: a device of the caller's own"

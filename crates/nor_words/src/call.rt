@@ -122,7 +122,7 @@ pub fn asked_by(line: &[u8], config: SpiNorConfig, room_len: usize) -> Asked
             second,
             takes,
         } => Asked::Begin {
-            call: flash::state::Call::Nor(call_of(k, config, first, second)),
+            call: flash_calls::call::Call::Nor(call_of(k, config, first, second)),
             takes,
         },
         Request::Bad => Asked::Bad,

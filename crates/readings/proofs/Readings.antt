@@ -10,7 +10,7 @@ use Rattle.spi_nand.specs.Config.{capacityOf, inBounds}
 use Rattle.spi_nand.specs.Opcode.{timingsOf}
 use Rattle.spi_nand.specs.Status.{verdictOf, withBits, blockProtectBits, isUnlocked}
 use Rattle.nand_phases.specs.Transfer.{inRange, placeOf, chunkOf}
-use Rattle.nand_pages.specs.Read.{readFrom, readThen}
+use Rattle.nand_ranges.specs.Read.{readFrom, readThen}
 use Rattle.nand_opening.specs.Opening.{openingOf}
 use Rattle.readings.specs.Readings.{ReadingsHold}
 

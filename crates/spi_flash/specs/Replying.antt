@@ -14,13 +14,13 @@ use Rattle.spi_flash.specs.Shape.{Then, Job, Running, idle, busy, Shape}
 use Rattle.spi_flash.specs.Settling.{settled}
 
 -- the result of a step, and the lent bytes after it
-pub record Moved (G : Type 0) : Type 0 where
+pub record AfterStep (G : Type 0) : Type 0 where
   pub stepped : G
   pub scratch : List ℕ
   pub buffer : List ℕ
 
-abbrev pub movedTo : {G : Type 0} → G → List ℕ → List ℕ → Moved G
-movedTo x scratch buffer = record { stepped = x; scratch = scratch; buffer = buffer }
+abbrev pub steppedTo : {G : Type 0} → G → List ℕ → List ℕ → AfterStep G
+steppedTo x scratch buffer = record { stepped = x; scratch = scratch; buffer = buffer }
 
 -- over what follows each transfer of the driver
 module _ {F S P A G : Type 0} (shape : Shape F S P A G) (next : S → P → Outcome → Then S P A) where
@@ -40,21 +40,21 @@ module _ {F S P A G : Type 0} (shape : Shape F S P A G) (next : S → P → Outc
   exchanged flash job delivered (Exchanged.Over outcome) = over flash job outcome
 
   -- and the lent bytes as the exchange leaves them
-  abbrev pub afterwards : F → Job P → ℕ → AfterExchange → Moved G
-  afterwards flash job delivered x = movedTo (exchanged flash job delivered (x .exchanged)) (x .scratch) (x .buffer)
+  abbrev pub afterwards : F → Job P → ℕ → AfterExchange → AfterStep G
+  afterwards flash job delivered x = steppedTo (exchanged flash job delivered (x .exchanged)) (x .scratch) (x .buffer)
 
   -- a reply in a call under way
-  abbrev pub proceeds : F → Job P → Reply → List ℕ → List ℕ → List ℕ → List ℕ → Moved G
+  abbrev pub proceeds : F → Job P → Reply → List ℕ → List ℕ → List ℕ → List ℕ → AfterStep G
   proceeds flash job reply bytes scratch buffer lent =
       afterwards flash job (deliveredBy (job .frame) reply (length bytes) (length buffer) (shape .delivered flash))
       (exchangeFor (job .takes) (job .frame) reply bytes scratch buffer lent)
 
-  abbrev pub stepAt : Running P → F → Reply → List ℕ → List ℕ → List ℕ → List ℕ → Moved G
-  stepAt idle flash reply bytes scratch buffer lent = movedTo (shape .refused flash FlashError.OutOfTurn) scratch buffer
+  abbrev pub stepAt : Running P → F → Reply → List ℕ → List ℕ → List ℕ → List ℕ → AfterStep G
+  stepAt idle flash reply bytes scratch buffer lent = steppedTo (shape .refused flash FlashError.OutOfTurn) scratch buffer
   stepAt (busy job) flash reply bytes scratch buffer lent = proceeds flash job reply bytes scratch buffer lent
 
   -- a reply with none expected is 13
-  unfoldable pub steps : F → Reply → List ℕ → List ℕ → List ℕ → List ℕ → Moved G
+  unfoldable pub steps : F → Reply → List ℕ → List ℕ → List ℕ → List ℕ → AfterStep G
   steps flash reply bytes scratch buffer lent = stepAt (shape .running flash) flash reply bytes scratch buffer lent
 
 -- the part of the caller's buffer that holds the bytes read by the last call begun

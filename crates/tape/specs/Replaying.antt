@@ -4,7 +4,7 @@ use mathlib.Core.List.{List, []}
 use Rattle.qspi.specs.Bus.{onBus}
 use Rattle.qspi.specs.Choice.{pick}
 use Rattle.qspi.specs.declared.bus.Reply.{Reply}
-use Rattle.spi_flash.specs.Replying.{Moved, movedTo}
+use Rattle.spi_flash.specs.Replying.{AfterStep, steppedTo}
 use Rattle.spi_flash.specs.Shape.{Given, acts, ends, fails, refuses, Shape}
 use Rattle.spi_flash.specs.declared.error.FlashError.{FlashError}
 use Rattle.tape.specs.Judge.{acceptedOf, firstOf}
@@ -15,7 +15,7 @@ use Rattle.tape.specs.declared.record.Record.{Record}
 pub record Taped (R F S P A G C : Type 0) : Type 0 where
   pub shape : Shape F S P A G
   pub begin : F → C → ℕ → ℕ → ℕ → G
-  pub step : F → Reply → List ℕ → List ℕ → List ℕ → List ℕ → Moved G
+  pub step : F → Reply → List ℕ → List ℕ → List ℕ → List ℕ → AfterStep G
   pub replayAt : G → ℕ → R
   pub stepped : R → G
   pub at : R → ℕ
@@ -36,7 +36,7 @@ module _ {R F S P A G C : Type 0} (taped : Taped R F S P A G C) where
       pick (acceptedOf tape) (taped .replayAt (taped .begin flash call s b d) (firstOf tape))
       (taped .replayAt (taped .shape .refused flash FlashError.MalformedTape) 0)
 
-  abbrev pub playedAt : ℕ → Moved G → Played R
+  abbrev pub playedAt : ℕ → AfterStep G → Played R
   playedAt at m = playedTo (taped .replayAt (m .stepped) at) (m .scratch) (m .buffer)
 
   -- select and delay are answered by done
@@ -46,7 +46,7 @@ module _ {R F S P A G C : Type 0} (taped : Taped R F S P A G C) where
   -- a bus action is answered by the record; with none left it is 16, "call unfinished"
   abbrev pub recordThen : Record → F → ℕ → List ℕ → List ℕ → List ℕ → List ℕ → Played R
   recordThen x flash at bytes scratch buffer lent =
-      pick (spentOf x) (playedAt at (movedTo (taped .shape .refused flash FlashError.TapeSpent) scratch buffer))
+      pick (spentOf x) (playedAt at (steppedTo (taped .shape .refused flash FlashError.TapeSpent) scratch buffer))
       (playedAt at (taped .step flash (replyOf x) bytes scratch buffer lent))
 
   unfoldable pub recordOver : F → ℕ → List ℕ → List ℕ → List ℕ → List ℕ → Played R

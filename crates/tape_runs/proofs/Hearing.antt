@@ -6,7 +6,6 @@ use Rattle.qspi.specs.declared.bus.Reply.{Reply}
 use Rattle.qspi.proofs.Cases.{by-cases}
 use Rattle.frames.specs.Frame.{exchangeOf}
 use Rattle.frames.specs.declared.frame.Exchanged.{Exchanged}
-use Rattle.spi_flash.specs.Replying as Replying
 use Rattle.spi_flash.specs.Settling as Settling
 use Rattle.spi_flash.specs.Loan.{Lent, readyFor, exchangeFor}
 use Rattle.spi_flash.specs.Machine.{lentAs}

@@ -1,3 +1,4 @@
-// The trace of a case as a function of C, for each driver.
+// The trace of a case, for each driver as a function of C, and for the programs from standard input to standard output.
 pub mod nand;
 pub mod nor;
+pub mod program;

@@ -3,7 +3,7 @@ use Prim.Native.Nat.{ℕ}
 use mathlib.Core.List.{List}
 use mathlib.Core.Path.{_≡_, ap}
 use Rattle.lines.specs.Text.{Text, textOf}
-use Rattle.flash_lent.specs.Answered.{afterAsking, askedIn}
+use Rattle.trace_asked.specs.Asked.{afterAsking, askedIn}
 use Rattle.flash_turns.specs.Turn.{takenTo}
 use Rattle.flash_turns.specs.declared.state.Turn.{Turn}
 use Rattle.trace_case.specs.Advance.{turnedTo, advancedOf}

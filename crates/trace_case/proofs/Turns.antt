@@ -7,7 +7,7 @@ use lib.ListN.{length, replicate}
 use mathlib.Core.Path.{_≡_, refl}
 use Rattle.lines.specs.Text.{textOf}
 use Rattle.trace_turns.specs.Budget.{budgetOf}
-use Rattle.flash.specs.declared.state.Kind.{Kind}
+use Rattle.flash_calls.specs.declared.call.Kind.{Kind}
 use Rattle.trace_case.specs.Advance.{Turned, turnedTo}
 use Rattle.trace_state.specs.State.{startOf, overAt}
 use Rattle.trace_case.specs.Case.{turnAfter, turnsOf, caseOf}

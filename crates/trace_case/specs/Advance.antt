@@ -2,7 +2,7 @@
 use Prim.Native.Nat.{ℕ}
 use mathlib.Core.List.{List}
 use Rattle.lines.specs.Text.{Text}
-use Rattle.flash.specs.Drive.{Moved}
+use Rattle.flash.specs.Drive.{AfterStep}
 use Rattle.flash.specs.declared.state.Stepped.{Stepped}
 use Rattle.flash_lent.specs.Lent.{askedOver}
 use Rattle.flash_turns.specs.State.{begunIn}
@@ -23,7 +23,7 @@ abbrev pub turnedTo : Trace → List ℕ → List ℕ → List ℕ → Text → 
 turnedTo trace scratch room reply text = record { trace = trace; scratch = scratch; room = room; reply = reply; text = text }
 
 -- the driver has answered
-abbrev pub turnedBy : TurnTaken → Moved Stepped → Turned
+abbrev pub turnedBy : TurnTaken → AfterStep Stepped → Turned
 turnedBy t m =
     turnedTo (traceOf (m .stepped) (t .settings) (begunIn (t .place) (t .ask) (m .stepped .given))) (m .scratch) (m .buffer) (t .reply) (t .text)
 

@@ -4,7 +4,7 @@ use mathlib.Core.List.{List}
 use lib.ListN.{length, replicate}
 use Rattle.qspi.specs.Choice.{pick}
 use Rattle.lines.specs.Text.{textOf}
-use Rattle.flash.specs.declared.state.Kind.{Kind}
+use Rattle.flash_calls.specs.declared.call.Kind.{Kind}
 use Rattle.trace_turns.specs.Budget.{budgetOf}
 use Rattle.trace_case.specs.Advance.{Turned, turnedTo, advancedOf}
 use Rattle.trace_state.specs.State.{startOf, overAt}

@@ -1,5 +1,5 @@
 // One turn of a trace, and what it asks of the driver.
-use flash_lent::answered;
+use trace_asked::asked;
 use trace_state::state::Trace;
 use trace_state::taken;
 ghost use mathlib.Core.Path.{_≡_};
@@ -19,5 +19,5 @@ pub fn advance(
     ensures { λ r. ⌜ turnedTo r (now (scratch .exit)) (now (room .exit)) (now (reply .exit)) (textOf (now (out .exit)) (now (at .exit))) ≡ advancedOf trace (now (text .entry)) (now (scratch .entry)) (now (room .entry)) (now (reply .entry)) (textOf (now (out .entry)) (now (at .entry))) ⌝ }
 {
     let turn = taken::turned(trace, text, scratch, room, reply, out, at);
-    answered::answered(trace, turn, scratch, room, reply)
+    asked::asked(trace, turn, scratch, room, reply)
 }

@@ -1,6 +1,6 @@
 // The trace of a whole case.
 use crate::advance;
-use flash::state::Kind;
+use flash_calls::call::Kind;
 use trace_state::state;
 use trace_turns::budget;
 ghost use mathlib.Core.Path.{_≡_};

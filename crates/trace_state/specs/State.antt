@@ -2,7 +2,7 @@
 use mathlib.Core.Bool.{Bool}
 use Rattle.spi_flash.specs.declared.error.FlashError.{FlashError}
 use Rattle.flash.specs.Drive.{notBuilt, refusedOf}
-use Rattle.flash.specs.declared.state.Kind.{Kind}
+use Rattle.flash_calls.specs.declared.call.Kind.{Kind}
 use Rattle.flash.specs.declared.state.Stepped.{Stepped}
 use Rattle.trace_turns.specs.Place as place
 use Rattle.trace_turns.specs.declared.place.Place.{Place}

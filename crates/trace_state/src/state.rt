@@ -2,8 +2,8 @@
 use dialect::settings;
 use dialect::settings::Settings;
 use flash::drive;
-use flash::state::Kind;
 use flash::state::Stepped;
+use flash_calls::call::Kind;
 use flash_turns::state;
 use flash_turns::state::Turn;
 use spi_flash::error::FlashError;

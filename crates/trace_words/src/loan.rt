@@ -3,7 +3,6 @@ use case_text::word;
 use qspi::bytes;
 use spi_flash::loan::Takes;
 ghost use mathlib.Core.Path.{_≡_};
-ghost use lib.ListN.{length};
 ghost use Rattle.trace_words.specs.Loan.{bufferOf, dataOf, filledOf, laidOf};
 
 // What the caller's buffer holds before a call.

@@ -7,7 +7,6 @@ use spi_flash::error::FlashError;
 use spi_flash::loan::Takes;
 ghost use Prim.Native.Nat.{_+_};
 ghost use mathlib.Core.Path.{_≡_};
-ghost use lib.ListN.{length};
 ghost use lib.Dec.{ltb};
 ghost use Rattle.lines.specs.Text.{textOf, appended};
 ghost use Rattle.spi_flash.specs.Error.{errorValues};

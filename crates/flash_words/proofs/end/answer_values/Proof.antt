@@ -5,7 +5,7 @@ use native.Mathlib.Numerals.{add-one}
 use lib.ListN.{length, drop}
 use borrow.Author.Needs.{needs}
 use Rattle.lines.specs.Text.{appended, putOf, textOf}
-use Rattle.flash.specs.Answer.{answerValues}
+use Rattle.flash_calls.specs.Answer.{answerValues}
 use Rattle.trace_words.specs.Print.{fieldsOf}
 use Rattle.trace_words.proofs.Values.{no-values, values-text, next-field, no-field-left}
 use Rattle.flash_words.proofs.end.answer_values.Statement.{statement}

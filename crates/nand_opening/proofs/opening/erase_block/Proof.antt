@@ -1,4 +1,4 @@
-use Rattle.nand_pages.specs.Block.{eraseThen}
+use Rattle.nand_ranges.specs.Block.{eraseThen}
 use borrow.Author.Needs.{needs}
 use Rattle.nand_opening.proofs.opening.erase_block.Statement.{statement}
 use Rattle.nand_opening.proofs.opening.erase_block.Tie as tie

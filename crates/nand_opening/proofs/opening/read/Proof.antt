@@ -1,4 +1,4 @@
-use Rattle.nand_pages.specs.Read.{readThen}
+use Rattle.nand_ranges.specs.Read.{readThen}
 use borrow.Author.Needs.{needs}
 use Rattle.nand_opening.proofs.opening.read.Statement.{statement}
 use Rattle.nand_opening.proofs.opening.read.Tie as tie

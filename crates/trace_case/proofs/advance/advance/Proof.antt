@@ -6,8 +6,8 @@ use Rattle.trace_case.proofs.advance.advance.Tie as tie
 turned-requires : tie.Need-turned-requires
 turned-requires c κs = search needs
 
-answered-requires : tie.Need-answered-requires
-answered-requires c κs = search needs
+asked-requires : tie.Need-asked-requires
+asked-requires c κs = search needs
 
 same-length : tie.Need-same-length
 same-length c = search needs
@@ -23,16 +23,16 @@ same-length-4 c = search needs
 
 returns : tie.Need-returns
 returns c =
-    let answered = c .before .before .before .before in
-    let turn = answered .before .before .before .before .before .before .before .before .before .before in
-    advanced _ _ _ _ _ _ (turn .turned .result) _ _ _ _ _ _ _ (turn .turned .ensures .0) (answered .answered .ensures)
+    let asked = c .before .before .before .before in
+    let turn = asked .before .before .before .before .before .before .before .before .before .before in
+    advanced _ _ _ _ _ _ (turn .turned .result) _ _ _ _ _ _ _ (turn .turned .ensures .0) (asked .asked .ensures)
 
 pub advance-spec : {M : Type 1} → statement M
 advance-spec =
     tie.close
     (tie.spec
     turned-requires
-    answered-requires
+    asked-requires
     same-length
     same-length-2
     same-length-3

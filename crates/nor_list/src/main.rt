@@ -1,7 +1,0 @@
-// Prints the traces of a list of NOR cases: the Rust's answers, which are stored.
-use flash::state::Kind;
-use trace_list::list;
-
-fn main() {
-    list::print_list(Kind::Nor);
-}

@@ -1,0 +1,2 @@
+// A trace whose driver is asked.
+pub mod asked;
