@@ -34,6 +34,10 @@ countOf (Flash.Nand flash) = flash .delivered
 abbrev pub refusedOf : Flash → FlashError → Stepped
 refusedOf flash error = record { flash = flash; given = Given.Refused error; delivered = countOf flash }
 
+-- before the first call: nothing has been given
+abbrev pub freshOf : Kind → Stepped
+freshOf kind = refusedOf (notBuilt kind) FlashError.OutOfTurn
+
 -- ---- what the one or the other has given
 
 abbrev pub norGiven : norGives.Given → Given

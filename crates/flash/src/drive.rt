@@ -11,10 +11,10 @@ use qspi::bus::Reply;
 use spi_flash::error::FlashError;
 ghost use mathlib.Core.Path.{_≡_};
 ghost use lib.ListN.{length};
-ghost use Rattle.flash.specs.Drive.{notBuilt, refusedOf, countOf, norGiven, nandGiven, norStepped, nandStepped, norBegun, nandBegun, beginOf, steppedTo, norMovedOf, nandMovedOf, stepOf};
+ghost use Rattle.flash.specs.Drive.{notBuilt, refusedOf, freshOf, countOf, norGiven, nandGiven, norStepped, nandStepped, norBegun, nandBegun, beginOf, steppedTo, norMovedOf, nandMovedOf, stepOf};
 
 // A driver before any construction.
-pub fn not_built(kind: Kind) -> Flash
+fn not_built(kind: Kind) -> Flash
     ensures { λ r. ⌜ r ≡ notBuilt kind ⌝ }
 {
     match kind {
@@ -41,6 +41,13 @@ pub fn refused(flash: Flash, error: FlashError) -> Stepped
         given: Given::Refused(error),
         delivered: count(flash),
     }
+}
+
+// Before the first call: nothing has been given.
+pub fn fresh(kind: Kind) -> Stepped
+    ensures { λ r. ⌜ r ≡ freshOf kind ⌝ }
+{
+    refused(not_built(kind), FlashError::OutOfTurn)
 }
 
 // ---- what the one or the other has given

@@ -2,8 +2,8 @@
 use flash_calls::call::Kind;
 use qspi::bytes;
 use trace_case::advance;
-use trace_state::state;
 use trace_turns::budget;
+use trace_turns::place;
 
 const STDIN: i32 = 0;
 
@@ -25,16 +25,16 @@ const OUT: usize = 196700;
 // Each turn is printed before the next one.
 fn print_case(kind: Kind, text: &[u8], room: &mut [u8], reply: &mut [u8], out: &mut [u8]) {
     let mut scratch = [0u8; 264];
-    let mut now = state::start(kind);
+    let mut trace = advance::start(kind);
     let most = budget::budget(text.len(), room.len());
     let mut i = 0;
     while i < most {
-        if state::over(now) {
+        trace = advance::advance(trace, text, &mut scratch, room, reply, out, 0);
+        io::write_all(STDOUT, bytes::delivered(out, trace.at));
+        let place = trace.place;
+        if place::over(place) {
             return;
         }
-        let mut at = 0;
-        now = advance::advance(now, text, &mut scratch, room, reply, out, &mut at);
-        io::write_all(STDOUT, bytes::delivered(out, at));
         i += 1;
     }
 }

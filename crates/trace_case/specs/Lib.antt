@@ -1,2 +1,1 @@
-pub mod Advance
 pub mod Case

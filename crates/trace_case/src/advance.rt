@@ -1,12 +1,58 @@
 // One turn of a trace, and what it asks of the driver.
-use trace_asked::asked;
-use trace_state::state::Trace;
-use trace_state::taken;
+use dialect::settings;
+use dialect::settings::Settings;
+use flash::drive;
+use flash::state::Stepped;
+use flash_calls::call::Kind;
+use flash_lent::lent;
+use flash_turns::state;
+use flash_turns::state::Turn;
+use flash_turns::turn;
+use trace_turns::place;
+use trace_turns::place::Place;
 ghost use mathlib.Core.Path.{_≡_};
 ghost use Rattle.lines.specs.Text.{textOf};
-ghost use Rattle.trace_case.specs.Advance.{turnedTo, advancedOf};
+ghost use Rattle.trace_case.specs.Case.{startOf, tracedBy, tracedTo, turnAfter};
 
-// A trace that is over stays as it is. `at` is the place behind what was printed.
+pub struct Trace {
+    // The driver with what it gave last.
+    pub stepped: Stepped,
+    // The settings for the next `new`.
+    pub settings: Settings,
+    pub place: Place,
+    // The place behind what was printed.
+    pub at: usize,
+}
+
+// Before the first line.
+pub fn start(kind: Kind) -> Trace
+    ensures { λ r. ⌜ r ≡ startOf kind ⌝ }
+{
+    Trace {
+        stepped: drive::fresh(kind),
+        settings: settings::none(kind),
+        place: place::start(),
+        at: 0,
+    }
+}
+
+// What the turn asks has been answered by the driver.
+fn traced_by(turn: Turn, stepped: Stepped) -> Trace
+    ensures { λ r. ⌜ r ≡ tracedBy turn stepped ⌝ }
+{
+    let settings = turn.settings;
+    let place = turn.place;
+    let ask = turn.ask;
+    let given = stepped.given;
+    Trace {
+        stepped: stepped,
+        settings: settings,
+        place: state::begun_in(place, ask, given),
+        at: turn.at,
+    }
+}
+
+// One turn, which prints from this place on. A trace that is over stays as it is.
 pub fn advance(
     trace: Trace,
     text: &[u8],
@@ -14,10 +60,26 @@ pub fn advance(
     room: &mut [u8],
     reply: &mut [u8],
     out: &mut [u8],
-    at: &mut usize,
+    at: usize,
 ) -> Trace
-    ensures { λ r. ⌜ turnedTo r (now (scratch .exit)) (now (room .exit)) (now (reply .exit)) (textOf (now (out .exit)) (now (at .exit))) ≡ advancedOf trace (now (text .entry)) (now (scratch .entry)) (now (room .entry)) (now (reply .entry)) (textOf (now (out .entry)) (now (at .entry))) ⌝ }
+    ensures { λ r. ⌜ tracedTo r (now (scratch .exit)) (now (room .exit)) (now (reply .exit)) (textOf (now (out .exit)) (r .at)) ≡ turnAfter (now (text .entry)) (tracedTo trace (now (scratch .entry)) (now (room .entry)) (now (reply .entry)) (textOf (now (out .entry)) at)) ⌝ }
 {
-    let turn = taken::turned(trace, text, scratch, room, reply, out, at);
-    asked::asked(trace, turn, scratch, room, reply)
+    let stepped = trace.stepped;
+    let settings = trace.settings;
+    let place = trace.place;
+    let given = stepped.given;
+    let turn = turn::turn(
+        settings,
+        place,
+        given,
+        stepped.delivered,
+        text,
+        scratch,
+        room,
+        reply,
+        out,
+        at,
+    );
+    let ask = turn.ask;
+    traced_by(turn, lent::asked(stepped, ask, scratch, room, reply))
 }

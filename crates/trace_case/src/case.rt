@@ -1,8 +1,8 @@
 // The trace of a whole case.
 use crate::advance;
 use flash_calls::call::Kind;
-use trace_state::state;
 use trace_turns::budget;
+use trace_turns::place;
 ghost use mathlib.Core.Path.{_≡_};
 ghost use Rattle.lines.specs.Text.{textOf};
 ghost use Rattle.trace_case.specs.Case.{caseOf};
@@ -15,16 +15,16 @@ pub fn traced(kind: Kind, text: &[u8], room: &mut [u8], reply: &mut [u8], out: &
     ensures { λ _. ⌜ now (reply .exit) ≡ caseOf kind (now (text .entry)) (now (room .entry)) (now (reply .entry)) (now (out .entry)) .reply ⌝ }
 {
     let mut scratch = [0u8; 264];
-    let mut trace = state::start(kind);
-    let mut at = 0;
+    let mut trace = advance::start(kind);
     let most = budget::budget(text.len(), room.len());
     let mut i = 0;
     while i < most {
-        if state::over(trace) {
-            return at;
+        let place = trace.place;
+        if place::over(place) {
+            return trace.at;
         }
-        trace = advance::advance(trace, text, &mut scratch, room, reply, out, &mut at);
+        trace = advance::advance(trace, text, &mut scratch, room, reply, out, trace.at);
         i += 1;
     }
-    at
+    trace.at
 }

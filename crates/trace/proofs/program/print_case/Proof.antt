@@ -6,10 +6,10 @@ use Rattle.trace.proofs.program.print_case.Statement.{statement}
 use Rattle.trace.proofs.program.print_case.Tie as tie
 
 abbrev Inv-loop : tie.InvT-loop
-Inv-loop text room₀ reply₀ out₀ scratch₀ now₀ most i₀ room reply out scratch now i = (length scratch ≡ 264) × (length room ≡ length room₀) × (length reply ≡ length reply₀) × (length out ≡ length out₀)
+Inv-loop text room₀ reply₀ out₀ scratch₀ trace₀ most i₀ room reply out scratch trace i = (length scratch ≡ 264) × (length room ≡ length room₀) × (length reply ≡ length reply₀) × (length out ≡ length out₀)
 
 abbrev μ-loop : tie.MeasureT-loop
-μ-loop text room₀ reply₀ out₀ scratch₀ now₀ most i₀ room reply out scratch now i = most - i
+μ-loop text room₀ reply₀ out₀ scratch₀ trace₀ most i₀ room reply out scratch trace i = most - i
 
 start-requires : tie.Need-start-requires Inv-loop μ-loop
 start-requires c κs = search needs
@@ -19,6 +19,18 @@ budget-requires c κs = search needs
 
 loop-holds : tie.Need-loop-holds Inv-loop μ-loop
 loop-holds c = search needs
+
+slice-aggregate-advance : tie.Need-slice-aggregate-advance Inv-loop μ-loop
+slice-aggregate-advance c = search needs
+
+advance-requires : tie.Need-advance-requires Inv-loop μ-loop
+advance-requires c κs = search needs
+
+delivered-requires : tie.Need-delivered-requires Inv-loop μ-loop
+delivered-requires c κs = search needs
+
+write-all-requires : tie.Need-write-all-requires Inv-loop μ-loop
+write-all-requires c κs = search needs
 
 over-requires : tie.Need-over-requires Inv-loop μ-loop
 over-requires c κs = search needs
@@ -34,18 +46,6 @@ same-length-3 c = search needs
 
 returns : tie.Need-returns Inv-loop μ-loop
 returns c = search needs
-
-slice-aggregate-advance : tie.Need-slice-aggregate-advance Inv-loop μ-loop
-slice-aggregate-advance c = search needs
-
-advance-requires : tie.Need-advance-requires Inv-loop μ-loop
-advance-requires c κs = search needs
-
-delivered-requires : tie.Need-delivered-requires Inv-loop μ-loop
-delivered-requires c κs = search needs
-
-write-all-requires : tie.Need-write-all-requires Inv-loop μ-loop
-write-all-requires c κs = search needs
 
 add-i : tie.Need-add-i Inv-loop μ-loop
 add-i c = search needs
@@ -77,15 +77,15 @@ print-case-spec =
     start-requires
     budget-requires
     loop-holds
+    slice-aggregate-advance
+    advance-requires
+    delivered-requires
+    write-all-requires
     over-requires
     same-length
     same-length-2
     same-length-3
     returns
-    slice-aggregate-advance
-    advance-requires
-    delivered-requires
-    write-all-requires
     add-i
     loop-less
     loop-again

@@ -4,23 +4,22 @@ use native.Mathlib.Nat.{sub-zero}
 use lib.ListN.{length}
 use borrow.Author.Needs.{needs}
 use Rattle.lines.specs.Text.{textOf}
-use Rattle.trace_case.specs.Advance.{Turned, turnedTo}
-use Rattle.trace_case.specs.Case.{turnsOf}
+use Rattle.trace_case.specs.Case.{Traced, tracedTo, turnsOf}
 use Rattle.trace_case.proofs.Turns.{turn-taken, turns-over, turns-spent, whole-case}
 use Rattle.trace_case.proofs.case.traced.Statement.{statement}
 use Rattle.trace_case.proofs.case.traced.Tie as tie
 
 -- the turns that are left, from the state now on, are those of the whole case
 abbrev Inv-loop : tie.InvT-loop
-Inv-loop text room₀ reply₀ out₀ scratch₀ trace₀ at₀ most i₀ room reply out scratch trace at i =
-    (turnsOf (most - i) text (turnedTo trace scratch room reply (textOf out at)) ≡ turnsOf most text (turnedTo trace₀ scratch₀ room₀ reply₀ (textOf out₀ at₀)))
+Inv-loop text room₀ reply₀ out₀ scratch₀ trace₀ most i₀ room reply out scratch trace i =
+    (turnsOf (most - i) text (tracedTo trace scratch room reply (textOf out (trace .at))) ≡ turnsOf most text (tracedTo trace₀ scratch₀ room₀ reply₀ (textOf out₀ (trace₀ .at))))
     × (length scratch ≡ 264)
     × (length room ≡ length room₀)
     × (length reply ≡ length reply₀)
     × (length out ≡ length out₀)
 
 abbrev μ-loop : tie.MeasureT-loop
-μ-loop text room₀ reply₀ out₀ scratch₀ trace₀ at₀ most i₀ room reply out scratch trace at i = most - i
+μ-loop text room₀ reply₀ out₀ scratch₀ trace₀ most i₀ room reply out scratch trace i = most - i
 
 start-requires : tie.Need-start-requires Inv-loop μ-loop
 start-requires c κs = search needs
@@ -45,10 +44,10 @@ same-length-3 c = search needs
 
 returns : tie.Need-returns Inv-loop μ-loop
 returns c =
-    let at = c .before .before .before in
+    let at = c .before .before .before .before in
     let budget = at .before in
     let e = turns-over _ _ _ (sym (c .before .over .ensures) ∙ c .if1 .taken) ∙ at .loop .inv .0 ∙ whole-case _ _ _ _ _ _ _ (budget .before .start .ensures) (budget .budget .ensures) in
-    (ap (λ (t : Turned). t .text) e, (ap (λ (t : Turned). t .room) e, ap (λ (t : Turned). t .reply) e))
+    (ap (λ (t : Traced). t .text) e, (ap (λ (t : Traced). t .room) e, ap (λ (t : Traced). t .reply) e))
 
 slice-aggregate-advance : tie.Need-slice-aggregate-advance Inv-loop μ-loop
 slice-aggregate-advance c = search needs
@@ -65,8 +64,8 @@ loop-less c = search needs
 loop-again : tie.Need-loop-again Inv-loop μ-loop
 loop-again c =
     let advance = c .before .before .before .before .before .before .before in
-    let left = advance .before .before .before .before .before .before in
-    let loop = left .before .before in (
+    let left = advance .before .before .before .before .before in
+    let loop = left .before .before .before in (
       rw (advance .advance .ensures)
           (turn-taken _ _ _ _ (loop .loop-test .taken) (sym (left .before .over .ensures) ∙ left .if1 .left) ∙ loop .before .loop .inv .0),
       search needs,
@@ -86,9 +85,10 @@ same-length-6 c = search needs
 
 returns-2 : tie.Need-returns-2 Inv-loop μ-loop
 returns-2 c =
-    let budget = c .before .before in
-    let e = turns-spent _ _ _ _ (c .loop-test .left) ∙ c .before .loop .inv .0 ∙ whole-case _ _ _ _ _ _ _ (budget .before .start .ensures) (budget .budget .ensures) in
-    (ap (λ (t : Turned). t .text) e, (ap (λ (t : Turned). t .room) e, ap (λ (t : Turned). t .reply) e))
+    let at = c .before in
+    let budget = at .before in
+    let e = turns-spent _ _ _ _ (c .loop-test .left) ∙ at .loop .inv .0 ∙ whole-case _ _ _ _ _ _ _ (budget .before .start .ensures) (budget .budget .ensures) in
+    (ap (λ (t : Traced). t .text) e, (ap (λ (t : Traced). t .room) e, ap (λ (t : Traced). t .reply) e))
 
 pub traced-spec : {M : Type 1} → statement M
 traced-spec =

@@ -1,2 +1,0 @@
-// A trace whose driver is asked.
-pub mod asked;
