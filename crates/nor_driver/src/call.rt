@@ -155,20 +155,33 @@ fn idle(flash: SpiNorFlash, opening: Opening, scratch_len: usize) -> Stepped
 }
 
 impl SpiNorFlash {
-    // Begins a call. Nothing lent changes: a command is put into the scratch only in a later step.
-    pub fn begin(self, call: Call, scratch: &[u8], buffer: &[u8], data: &[u8]) -> Stepped
-        ensures { λ r. ⌜ r ≡ beginOf self call (length (now (scratch .entry))) (length (now (buffer .entry))) (length (now («data» .entry))) ⌝ }
+    // Begins a call, by the lengths of what is lent.
+    pub fn begin_lent(
+        self,
+        call: Call,
+        scratch_len: usize,
+        buffer_len: usize,
+        data_len: usize,
+    ) -> Stepped
+        ensures { λ r. ⌜ r ≡ beginOf self call «scratch_len» «buffer_len» «data_len» ⌝ }
     {
         let running = self.running;
         match running {
             Running::Idle => {
                 return idle(
                     self,
-                    opening::opening_of(self.setup, call, buffer.len(), data.len()),
-                    scratch.len(),
+                    opening::opening_of(self.setup, call, buffer_len, data_len),
+                    scratch_len,
                 );
             }
             Running::Busy(_) => return settle::refused(self, FlashError::OutOfTurn),
         }
+    }
+
+    // Nothing lent changes: a command is put into the scratch only in a later step.
+    pub fn begin(self, call: Call, scratch: &[u8], buffer: &[u8], data: &[u8]) -> Stepped
+        ensures { λ r. ⌜ r ≡ beginOf self call (length (now (scratch .entry))) (length (now (buffer .entry))) (length (now («data» .entry))) ⌝ }
+    {
+        self.begin_lent(call, scratch.len(), buffer.len(), data.len())
     }
 }

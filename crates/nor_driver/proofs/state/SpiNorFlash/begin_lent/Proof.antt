@@ -1,7 +1,7 @@
 use Rattle.spi_flash.specs.Beginning.{begins}
 use borrow.Author.Needs.{needs}
-use Rattle.nand_driver.proofs.state.SpiNandFlash.begin.Statement.{statement}
-use Rattle.nand_driver.proofs.state.SpiNandFlash.begin.Tie as tie
+use Rattle.nor_driver.proofs.state.SpiNorFlash.begin_lent.Statement.{statement}
+use Rattle.nor_driver.proofs.state.SpiNorFlash.begin_lent.Tie as tie
 
 enum-told : tie.Need-enum-told
 enum-told c = search needs
@@ -26,7 +26,7 @@ returns-2 : tie.Need-returns-2
 unfolding begins
 returns-2 c = simp (c .before .enum-told2 .given .1, ← c .refused .ensures)
 
-pub begin-spec : {M : Type 1} → statement M
-begin-spec =
+pub begin-lent-spec : {M : Type 1} → statement M
+begin-lent-spec =
     tie.close
     (tie.spec enum-told opening-of-requires idle-requires returns enum-told-2 refused-requires returns-2)
