@@ -178,7 +178,7 @@ impl SpiNorFlash {
         }
     }
 
-    // Nothing lent changes: a command is put into the scratch only in a later step.
+    // Begins a call. Nothing lent changes: a command is put into the scratch only in a later step.
     pub fn begin(self, call: Call, scratch: &[u8], buffer: &[u8], data: &[u8]) -> Stepped
         ensures { λ r. ⌜ r ≡ beginOf self call (length (now (scratch .entry))) (length (now (buffer .entry))) (length (now («data» .entry))) ⌝ }
     {
