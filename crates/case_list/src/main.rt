@@ -1,5 +1,7 @@
 // Prints the traces of a list of cases, which must be the Rust's stored answers. A line with a mark ends each case. The NOR's cases come
 // first and end with an empty one; the NAND's follow.
+#![tactic(auto)]
+
 use case_text::word;
 use flash_calls::call::Kind;
 use qspi::bytes;

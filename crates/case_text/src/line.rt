@@ -28,7 +28,7 @@ const WORDS_NONE: usize = 2;
 
 const WORDS_FOUR: usize = 5;
 
-#[derive(Drop)]
+#[derive(Clone, Copy)]
 pub struct Four {
     pub first: u64,
     pub second: u64,
@@ -37,7 +37,7 @@ pub struct Four {
 }
 
 // What stands behind a setting's name.
-#[derive(Drop)]
+#[derive(Clone, Copy)]
 pub enum Setting {
     Nothing,
     Numbers(Four),
@@ -45,7 +45,7 @@ pub enum Setting {
 }
 
 // The quad setting: four numbers as the drivers take them.
-#[derive(Drop)]
+#[derive(Clone, Copy)]
 pub struct Quad {
     pub tclqv_ns: u32,
     pub read_opcode: u8,
@@ -53,7 +53,7 @@ pub struct Quad {
     pub margin: u8,
 }
 
-#[derive(Drop)]
+#[derive(Clone, Copy)]
 pub enum Line {
     // No line is left.
     End,

@@ -32,7 +32,7 @@ const NO_DIGIT: u8 = 16;
 // The largest number of 64 bits.
 const MOST: u64 = 18446744073709551615;
 
-#[derive(Drop)]
+#[derive(Clone, Copy)]
 pub enum Number {
     Value(u64),
     Malformed,

@@ -14,7 +14,7 @@ use trace_turns::place::{Mode, Place};
 use trace_words::heard::Heard;
 
 // Where a line is taken, the next one begins at next.
-#[derive(Drop)]
+#[derive(Clone, Copy)]
 pub enum Hears {
     // A reply to the action that is out; its bytes are the first n of the reply's memory.
     Answer { reply: Reply, n: usize, next: usize },

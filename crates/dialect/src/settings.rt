@@ -7,7 +7,7 @@ use flash_calls::call::Kind;
 use spi_nand::config::SpiNandConfig;
 use spi_nor::config::SpiNorConfig;
 
-#[derive(Drop)]
+#[derive(Clone, Copy)]
 pub enum Settings {
     Nor(SpiNorConfig),
     Nand(SpiNandConfig),

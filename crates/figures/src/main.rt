@@ -1,4 +1,6 @@
 // Prints figures of both drivers' tables, one line each: a name, then its values. Ids are hexadecimal, other numbers decimal.
+#![tactic(auto)]
+
 mod errors;
 mod line;
 mod nand;

@@ -1,3 +1,5 @@
 // Either driver as one machine that the host steps.
+#![tactic(auto)]
+
 pub mod drive;
 pub mod state;

@@ -1,11 +1,11 @@
 // Either driver's calls.
-#[derive(Drop)]
+#[derive(Clone, Copy)]
 pub enum Kind {
     Nor,
     Nand,
 }
 
-#[derive(Drop)]
+#[derive(Clone, Copy)]
 pub enum Call {
     Nor(nor_phases::call::Call),
     Nand(nand_phases::call::Call),

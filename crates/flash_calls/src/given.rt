@@ -6,13 +6,13 @@ use qspi::bus::Action;
 use spi_flash::error::FlashError;
 
 // What a call that succeeds answers.
-#[derive(Drop)]
+#[derive(Clone, Copy)]
 pub enum Answer {
     Nor(nor_answers::answer::Answer),
     Nand(nand_answers::answer::Answer),
 }
 
-#[derive(Drop)]
+#[derive(Clone, Copy)]
 pub enum Given {
     Act(Action),
     // The call has succeeded.

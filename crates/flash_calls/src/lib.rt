@@ -1,3 +1,5 @@
 // What is asked of either driver, and what it gives, whichever it is.
+#![tactic(auto)]
+
 pub mod call;
 pub mod given;

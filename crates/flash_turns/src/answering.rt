@@ -10,7 +10,7 @@ use flash_words::asked::Ask;
 use trace_turns::place;
 use trace_turns::place::Place;
 
-#[derive(Drop)]
+#[derive(Clone, Copy)]
 pub struct Next {
     pub place: Place,
     pub ask: Ask,

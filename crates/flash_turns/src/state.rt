@@ -8,7 +8,7 @@ use flash_words::asked::Ask;
 use trace_turns::place;
 use trace_turns::place::Place;
 
-#[derive(Drop)]
+#[derive(Clone, Copy)]
 pub struct Turn {
     // The settings for the next `new`.
     pub settings: Settings,

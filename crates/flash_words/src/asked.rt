@@ -4,13 +4,13 @@ use qspi::bus::Reply;
 use spi_flash::error::FlashError;
 use spi_flash::loan::Takes;
 
-#[derive(Drop)]
+#[derive(Clone, Copy)]
 pub enum Asked {
     Begin { call: Call, takes: Takes },
     Bad,
 }
 
-#[derive(Drop)]
+#[derive(Clone, Copy)]
 pub enum Ask {
     Nothing,
     // A call, whose loan is laid into the room.

@@ -10,7 +10,7 @@ use qspi::transfer::{Body, Payload, Transfer};
 use qspi::{bytes, command};
 
 // Which action of the transfer is out.
-#[derive(Drop)]
+#[derive(Clone, Copy)]
 pub enum Stage {
     Start,
     Command,
@@ -18,33 +18,33 @@ pub enum Stage {
     High,
 }
 
-#[derive(Drop)]
+#[derive(Clone, Copy)]
 pub enum Outcome {
     Value(u64),
     Failed(u8),
 }
 
-#[derive(Drop)]
+#[derive(Clone, Copy)]
 pub struct Frame {
     pub transfer: Transfer,
     pub stage: Stage,
     pub outcome: Outcome,
 }
 
-#[derive(Drop)]
+#[derive(Clone, Copy)]
 pub enum Following {
     To(Stage),
     Over,
 }
 
-#[derive(Drop)]
+#[derive(Clone, Copy)]
 pub enum Advanced {
     More(Frame),
     Over(Outcome),
 }
 
 // What a reply comes to: it does not fit, another action of the transfer is given out, or the transfer is over.
-#[derive(Drop)]
+#[derive(Clone, Copy)]
 pub enum Exchanged {
     Misfit,
     Gave { frame: Frame, action: Action },

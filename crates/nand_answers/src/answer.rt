@@ -9,7 +9,7 @@ use spi_nand::status::{Configuration, Protection, Status};
 use values::value;
 
 // What a call that succeeds answers.
-#[derive(Drop)]
+#[derive(Clone, Copy)]
 pub enum Answer {
     Done,
     Flag(bool),

@@ -1,2 +1,4 @@
 // How each call of SpiNandFlash (nand/driver.rs) begins.
+#![tactic(auto)]
+
 pub mod opening;

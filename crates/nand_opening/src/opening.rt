@@ -24,7 +24,7 @@ use spi_nand::config::SpiNandConfig;
 use spi_nand::opcode;
 
 // What a call is to a driver at rest.
-#[derive(Drop)]
+#[derive(Clone, Copy)]
 pub enum Opening {
     Constructs(SpiNandConfig),
     // It only tells what the driver holds.

@@ -1,7 +1,7 @@
 // The public calls of SpiNandFlash, with their numbers.
 use spi_nand::config::SpiNandConfig;
 
-#[derive(Drop)]
+#[derive(Clone, Copy)]
 pub enum Call {
     New,
     WithConfig(SpiNandConfig),

@@ -3,14 +3,14 @@ ghost use Rattle.std.specs.Prelude.{◌≡◌};
 ghost use Rattle.nand_phases.specs.Verdict.{asks_verdict};
 
 // Here and below `bring_up` tells a part of bring_up from a call of its own.
-#[derive(Drop)]
+#[derive(Clone, Copy)]
 pub enum ResetFor {
     Reset,
     Identify { bring_up: bool },
 }
 
 // What write_register is for.
-#[derive(Drop)]
+#[derive(Clone, Copy)]
 pub enum RegisterFor {
     Call,
     // ensure_configuration, with the register as it was read.
@@ -21,7 +21,7 @@ pub enum RegisterFor {
 }
 
 // What is_bad_block is for.
-#[derive(Drop)]
+#[derive(Clone, Copy)]
 pub enum MarkerFor {
     Call,
     // mark_bad_block: its first look at this block, and its last.
@@ -30,7 +30,7 @@ pub enum MarkerFor {
 }
 
 // What a page is loaded for.
-#[derive(Drop)]
+#[derive(Clone, Copy)]
 pub enum LoadFor {
     PageRead,
     ReadPage,
@@ -66,7 +66,7 @@ impl LoadFor {
 }
 
 // What program_execute is for: a page, or the block that is marked.
-#[derive(Drop)]
+#[derive(Clone, Copy)]
 pub enum ProgramFor {
     Call,
     WritePage(usize),
@@ -74,14 +74,14 @@ pub enum ProgramFor {
 }
 
 // What erase_block is for.
-#[derive(Drop)]
+#[derive(Clone, Copy)]
 pub enum EraseFor {
     Call,
     MarkBad(usize),
 }
 
 // What the write-enable latch is set for.
-#[derive(Drop)]
+#[derive(Clone, Copy)]
 pub enum EnableFor {
     Call,
     Register {
@@ -98,14 +98,14 @@ pub enum EnableFor {
 }
 
 // Where write_enable stands: its command is out, or the look at its latch.
-#[derive(Drop)]
+#[derive(Clone, Copy)]
 pub enum EnableStep {
     Command,
     Latch,
 }
 
 // A command with a wait behind it.
-#[derive(Drop)]
+#[derive(Clone, Copy)]
 pub enum Task {
     Reset(ResetFor),
     Register(RegisterFor),
@@ -115,7 +115,7 @@ pub enum Task {
 }
 
 // Where a task stands: its command is out, a look at the status, a delay between two looks, or the status that tells how it went.
-#[derive(Drop)]
+#[derive(Clone, Copy)]
 pub enum WaitStep {
     Command,
     Look,
@@ -124,7 +124,7 @@ pub enum WaitStep {
 }
 
 // What a register or the id is read for.
-#[derive(Drop)]
+#[derive(Clone, Copy)]
 pub enum Asked {
     // read_status, read_configuration, read_protection
     Status,
@@ -143,7 +143,7 @@ pub enum Asked {
     QuadDisabled,
 }
 
-#[derive(Drop)]
+#[derive(Clone, Copy)]
 pub enum Phase {
     // with_config
     Raised,

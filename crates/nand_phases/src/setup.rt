@@ -6,7 +6,7 @@ use spi_nand::config::{NandGeometry, NandInit, NandJedecId, SpiNandConfig};
 use spi_nand::status::{Configuration, Protection};
 
 // What the Rust's struct holds beside its bus.
-#[derive(Drop)]
+#[derive(Clone, Copy)]
 pub struct Setup {
     pub config: SpiNandConfig,
     pub geometry: NandGeometry,

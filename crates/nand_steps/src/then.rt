@@ -6,13 +6,13 @@ use qspi::transfer::Transfer;
 use spi_flash::error::FlashError;
 
 // Another transfer, or the call's end.
-#[derive(Drop)]
+#[derive(Clone, Copy)]
 pub enum Next {
     Go { transfer: Transfer, phase: Phase },
     End(Answer),
 }
 
-#[derive(Drop)]
+#[derive(Clone, Copy)]
 pub enum Then {
     // On with what the driver holds from here.
     On { setup: Setup, next: Next },

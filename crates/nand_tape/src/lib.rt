@@ -1,2 +1,4 @@
 // Calls of the NAND driver over a reply tape.
+#![tactic(auto)]
+
 pub mod replay;

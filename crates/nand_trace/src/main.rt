@@ -1,4 +1,6 @@
 // Prints the trace of the NAND case on standard input.
+#![tactic(auto)]
+
 use flash_calls::call::Kind;
 use trace::program;
 

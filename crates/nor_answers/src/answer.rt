@@ -6,7 +6,7 @@ use spi_nor::config::{DeviceSetting, NorDeviceInfo, NorJedecId, QuadSetting, Spi
 use values::value;
 
 // What a call that succeeds answers.
-#[derive(Drop)]
+#[derive(Clone, Copy)]
 pub enum Answer {
     Done,
     Byte(u8),

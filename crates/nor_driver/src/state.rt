@@ -8,14 +8,14 @@ use spi_flash::error::FlashError;
 use spi_flash::loan::Takes;
 
 // A call under way.
-#[derive(Drop)]
+#[derive(Clone, Copy)]
 pub struct Job {
     pub phase: Phase,
     pub frame: Frame,
     pub takes: Takes,
 }
 
-#[derive(Drop)]
+#[derive(Clone, Copy)]
 pub enum Running {
     Idle,
     Busy(Job),
@@ -31,7 +31,7 @@ pub struct SpiNorFlash {
     pub running: Running,
 }
 
-#[derive(Drop)]
+#[derive(Clone, Copy)]
 pub enum Given {
     Act(Action),
     // The call has succeeded.

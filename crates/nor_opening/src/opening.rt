@@ -17,7 +17,7 @@ use spi_flash::loan::Takes;
 use spi_nor::config::SpiNorConfig;
 
 // What a call is to a driver at rest.
-#[derive(Drop)]
+#[derive(Clone, Copy)]
 pub enum Opening {
     Constructs(SpiNorConfig),
     // It only tells what the driver holds.

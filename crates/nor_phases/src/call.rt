@@ -1,7 +1,7 @@
 // The public calls of SpiNorFlash, with their numbers.
 use spi_nor::config::SpiNorConfig;
 
-#[derive(Drop)]
+#[derive(Clone, Copy)]
 pub enum Call {
     New,
     WithConfig(SpiNorConfig),

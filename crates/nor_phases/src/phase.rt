@@ -1,13 +1,13 @@
 // Where a call stands: which of its transfers is out.
 
-#[derive(Drop)]
+#[derive(Clone, Copy)]
 pub enum EraseKind {
     Sector,
     Block,
 }
 
 // A write to the part, from its write enable to the end of its wait.
-#[derive(Drop)]
+#[derive(Clone, Copy)]
 pub enum Task {
     // enable_quad, with the register as it was read.
     EnableQuad2(u8),
@@ -39,7 +39,7 @@ pub enum Task {
 }
 
 // Where a task stands: write_enable is out, the look at its latch, the command, a look at the status, or a delay between two looks.
-#[derive(Drop)]
+#[derive(Clone, Copy)]
 pub enum WriteStep {
     Enable,
     Latch,
@@ -48,7 +48,7 @@ pub enum WriteStep {
     Pause,
 }
 
-#[derive(Drop)]
+#[derive(Clone, Copy)]
 pub enum Phase {
     // with_config
     Raised,

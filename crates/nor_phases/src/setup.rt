@@ -2,7 +2,7 @@
 use spi_nor::config::{NorDeviceInfo, NorJedecId, SpiNorConfig};
 
 // What the Rust's struct holds beside its bus.
-#[derive(Drop)]
+#[derive(Clone, Copy)]
 pub struct Setup {
     pub config: SpiNorConfig,
     pub device: NorDeviceInfo,

@@ -1,4 +1,6 @@
 // Replays the construction of a single-line NOR over the tape on standard input, and prints its actions.
+#![tactic(auto)]
+
 use nor_tape::{program, replay};
 use qspi::bytes;
 

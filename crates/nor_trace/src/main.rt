@@ -1,4 +1,6 @@
 // Prints the trace of the NOR case on standard input.
+#![tactic(auto)]
+
 use flash_calls::call::Kind;
 use trace::program;
 

@@ -1,3 +1,5 @@
 // The NOR's words in a case: its calls and its settings.
+#![tactic(auto)]
+
 pub mod call;
 pub mod setting;

@@ -3,13 +3,13 @@ ghost use Rattle.std.specs.Prelude.{◌≡◌};
 ghost use Rattle.qspi.specs.Bus.{awaits_of, fits_of, on_bus};
 
 // The bytes of an action: a part of the scratch or of the caller's data.
-#[derive(Drop)]
+#[derive(Clone, Copy)]
 pub enum Part {
     Scratch { from: usize, len: usize },
     Data { from: usize, len: usize },
 }
 
-#[derive(Drop)]
+#[derive(Clone, Copy)]
 pub enum Action {
     SelectLow,
     SelectHigh,
@@ -29,7 +29,7 @@ pub enum Action {
 }
 
 // The kind of a reply. The bytes of a Data reply are lent beside it.
-#[derive(Drop)]
+#[derive(Clone, Copy)]
 pub enum Reply {
     Done,
     Data,
@@ -37,7 +37,7 @@ pub enum Reply {
 }
 
 // What an action awaits.
-#[derive(Drop)]
+#[derive(Clone, Copy)]
 pub enum Awaits {
     Done,
     DoneOrError,

@@ -5,7 +5,7 @@ ghost use Rattle.qspi.specs.Command.{command_bytes, with_command};
 // The least scratch that a host lends.
 pub const SCRATCH_LEN: usize = 264;
 
-#[derive(Drop)]
+#[derive(Clone, Copy)]
 pub enum Command {
     Opcode(u8),
     // A register, a value or one dummy byte.

@@ -5,7 +5,7 @@ ghost use Rattle.qspi.specs.Transfer.{command_only};
 use crate::command::Command;
 
 // The bytes behind a command that writes.
-#[derive(Drop)]
+#[derive(Clone, Copy)]
 pub enum Payload {
     // A part of the caller's data, sent uncopied.
     Data { from: usize, len: usize },
@@ -16,7 +16,7 @@ pub enum Payload {
 }
 
 // Where the bytes of a read go.
-#[derive(Drop)]
+#[derive(Clone, Copy)]
 pub enum Sink {
     // A number, highest byte first: registers and ids.
     Number,
@@ -27,7 +27,7 @@ pub enum Sink {
 }
 
 // What follows a command while select is low. The quad calls have the command with their data.
-#[derive(Drop)]
+#[derive(Clone, Copy)]
 pub enum Body {
     None,
     Read {
@@ -44,7 +44,7 @@ pub enum Body {
     QuadWrite(Payload),
 }
 
-#[derive(Drop)]
+#[derive(Clone, Copy)]
 pub enum Transfer {
     // Select high alone, with which a construction begins.
     Raise,

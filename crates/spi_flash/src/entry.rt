@@ -5,7 +5,7 @@ ghost use Rattle.spi_flash.specs.Entry.{entry_of};
 use crate::error::FlashError;
 use qspi::command::SCRATCH_LEN;
 
-#[derive(Drop)]
+#[derive(Clone, Copy)]
 pub enum Entry {
     Open,
     Shut(FlashError),

@@ -2,7 +2,7 @@
 ghost use Rattle.std.specs.Prelude.{◌≡◌};
 ghost use Rattle.spi_flash.specs.Error.{error_number, kind_of};
 
-#[derive(Drop)]
+#[derive(Clone, Copy)]
 pub enum FlashError {
     // The bus failed, with its code.
     Spi(u8),
@@ -32,7 +32,7 @@ pub enum FlashError {
 }
 
 // embedded_storage's NorFlashErrorKind.
-#[derive(Drop)]
+#[derive(Clone, Copy)]
 pub enum NorFlashErrorKind {
     NotAligned,
     OutOfBounds,

@@ -1,4 +1,6 @@
 // What both flash drivers share: their errors, what a call takes, whether it may begin, and the rule of their waits.
+#![tactic(auto)]
+
 pub mod entry;
 pub mod error;
 pub mod loan;

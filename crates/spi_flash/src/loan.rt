@@ -9,7 +9,7 @@ use qspi::bus::Reply;
 use qspi::command::SCRATCH_LEN;
 
 // What a call takes beside the scratch, with its length at the beginning: later steps are held to that length alone.
-#[derive(Drop)]
+#[derive(Clone, Copy)]
 pub enum Takes {
     Nothing,
     Buffer(usize),

@@ -3,14 +3,14 @@ ghost use Rattle.std.specs.Prelude.{◌≡◌};
 ghost use Rattle.spi_flash.specs.Wait.{first_wait, next_wait};
 
 // Polling parameters in microseconds, as in nand/opcode.rs.
-#[derive(Drop)]
+#[derive(Clone, Copy)]
 pub struct Timings {
     pub initial_us: u32,
     pub poll_us: u32,
     pub timeout_us: u32,
 }
 
-#[derive(Drop)]
+#[derive(Clone, Copy)]
 pub enum Wait {
     // Look at the status.
     Look,

@@ -6,7 +6,7 @@ use crate::opcode;
 use crate::status::{Configuration, Protection};
 
 // What READ ID answers.
-#[derive(Drop)]
+#[derive(Clone, Copy)]
 pub struct NandJedecId {
     pub manufacturer: u8,
     pub device: u16,
@@ -23,7 +23,7 @@ impl NandJedecId {
     }
 }
 
-#[derive(Drop)]
+#[derive(Clone, Copy)]
 pub struct NandGeometry {
     // Main bytes of a page.
     pub page_size: usize,
@@ -183,7 +183,7 @@ impl NandGeometry {
 }
 
 // Four-line transfers of the cache.
-#[derive(Drop)]
+#[derive(Clone, Copy)]
 pub struct NandQuadConfig {
     // From the clock to valid output, in nanoseconds.
     pub tclqv_ns: u32,
@@ -208,21 +208,21 @@ impl NandQuadConfig {
     }
 }
 
-#[derive(Drop)]
+#[derive(Clone, Copy)]
 pub enum QuadSetting {
     // One data line.
     Single,
     Quad(NandQuadConfig),
 }
 
-#[derive(Drop)]
+#[derive(Clone, Copy)]
 pub enum GeometrySetting {
     // By the id that the part answers.
     Detect,
     Given(NandGeometry),
 }
 
-#[derive(Drop)]
+#[derive(Clone, Copy)]
 pub struct SpiNandConfig {
     pub quad: QuadSetting,
     pub geometry: GeometrySetting,
@@ -255,7 +255,7 @@ impl SpiNandConfig {
 }
 
 // The id and the registers as a construction found and left them.
-#[derive(Drop)]
+#[derive(Clone, Copy)]
 pub struct NandInit {
     pub id: NandJedecId,
     pub configuration_before: Configuration,

@@ -1,4 +1,6 @@
 // The SPI NAND driver, under the Rust's names.
+#![tactic(auto)]
+
 pub mod command;
 pub mod config;
 pub mod opcode;

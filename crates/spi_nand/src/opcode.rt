@@ -36,7 +36,7 @@ pub const REG_CONFIGURATION: u8 = 0xB0;
 pub const REG_STATUS: u8 = 0xC0;
 
 // What a wait waits for.
-#[derive(Drop)]
+#[derive(Clone, Copy)]
 pub enum Operation {
     Reset,
     PageRead,

@@ -3,7 +3,7 @@ ghost use Rattle.std.specs.Prelude.{◌≡◌};
 ghost use Rattle.spi_nand.specs.Status.{status_of, status_byte, busy_of, write_enabled_of, erase_failed_of, program_failed_of, verdict_of, configuration_of, configuration_byte, ecc_enabled_of, buffer_read_of, otp_enabled_of, quad_enabled_of, with_bits, same_configuration, protection_of, protection_byte, block_protect_bits, is_unlocked};
 
 // The status register (C0).
-#[derive(Drop)]
+#[derive(Clone, Copy)]
 pub struct Status(u8);
 
 impl Status {
@@ -67,7 +67,7 @@ impl Status {
 }
 
 // What the on-die ECC says of the page loaded last.
-#[derive(Drop)]
+#[derive(Clone, Copy)]
 pub enum EccVerdict {
     NoBitFlips,
     Corrected,
@@ -77,7 +77,7 @@ pub enum EccVerdict {
 }
 
 // The configuration register (B0).
-#[derive(Drop)]
+#[derive(Clone, Copy)]
 pub struct Configuration(u8);
 
 impl Configuration {
@@ -146,7 +146,7 @@ impl Configuration {
 }
 
 // The block-protection register (A0).
-#[derive(Drop)]
+#[derive(Clone, Copy)]
 pub struct Protection(u8);
 
 impl Protection {

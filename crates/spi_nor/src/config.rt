@@ -19,7 +19,7 @@ pub const MAX_CAPACITY: usize = 16_777_216;
 pub const MAX_PAGE_SIZE: usize = 65_536;
 
 // What READ ID (9F) answers.
-#[derive(Drop)]
+#[derive(Clone, Copy)]
 pub struct NorJedecId {
     // EF for Winbond.
     pub manufacturer: u8,
@@ -30,7 +30,7 @@ pub struct NorJedecId {
 }
 
 // The Rust's Option<usize>.
-#[derive(Drop)]
+#[derive(Clone, Copy)]
 pub enum CapacityBytes {
     Known(usize),
     Unknown,
@@ -49,7 +49,7 @@ impl NorJedecId {
     }
 }
 
-#[derive(Drop)]
+#[derive(Clone, Copy)]
 pub struct NorDeviceInfo {
     pub capacity: usize,
     pub sector_size: usize,
@@ -166,7 +166,7 @@ impl NorDeviceInfo {
 }
 
 // Quad data-phase parameters.
-#[derive(Drop)]
+#[derive(Clone, Copy)]
 pub struct NorQuadConfig {
     // Clock-to-output valid time in nanoseconds.
     pub tclqv_ns: u32,
@@ -194,21 +194,21 @@ impl NorQuadConfig {
 }
 
 // The Rust's Option<NorQuadConfig>.
-#[derive(Drop)]
+#[derive(Clone, Copy)]
 pub enum QuadSetting {
     Single,
     Quad(NorQuadConfig),
 }
 
 // The Rust's Option<NorDeviceInfo>.
-#[derive(Drop)]
+#[derive(Clone, Copy)]
 pub enum DeviceSetting {
     // By READ ID.
     Detect,
     Given(NorDeviceInfo),
 }
 
-#[derive(Drop)]
+#[derive(Clone, Copy)]
 pub struct SpiNorConfig {
     pub quad: QuadSetting,
     pub device: DeviceSetting,

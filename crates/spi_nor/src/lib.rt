@@ -1,4 +1,6 @@
 // The SPI NOR part: its opcodes, registers, geometries and commands.
+#![tactic(auto)]
+
 pub mod command;
 pub mod config;
 pub mod opcode;

@@ -45,7 +45,7 @@ pub const STATUS_WRITE_TIMEOUT_US: u32 = 100_000;
 pub const MAX_BULK_LEN: usize = 64 * 1024;
 
 // What is waited for.
-#[derive(Drop)]
+#[derive(Clone, Copy)]
 pub enum Operation {
     PageProgram,
     SectorErase,

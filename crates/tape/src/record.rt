@@ -30,7 +30,7 @@ pub const HEADER_LEN: usize = 4;
 // The trailer is the first record's position, in three bytes.
 pub const TRAILER_LEN: usize = 3;
 
-#[derive(Drop)]
+#[derive(Clone, Copy)]
 pub enum Record {
     Done,
     // The bytes are a part of the tape.
@@ -40,7 +40,7 @@ pub enum Record {
     Spent,
 }
 
-#[derive(Drop)]
+#[derive(Clone, Copy)]
 pub struct Taken {
     pub given: Record,
     // The position of the next record.

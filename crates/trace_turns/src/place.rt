@@ -5,7 +5,7 @@ ghost use Rattle.trace_turns.specs.Place.{place_of, start_of, over_of, in_mode, 
 use spi_flash::loan::Takes;
 
 // What the next turn does.
-#[derive(Drop)]
+#[derive(Clone, Copy)]
 pub enum Mode {
     // It takes a line between two calls.
     Reading,
@@ -21,7 +21,7 @@ pub enum Mode {
     Over,
 }
 
-#[derive(Drop)]
+#[derive(Clone, Copy)]
 pub struct Place {
     // What the call takes, in the room.
     pub takes: Takes,

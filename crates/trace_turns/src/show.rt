@@ -9,7 +9,7 @@ use case_text::line;
 use trace_words::{loan, print};
 
 // Where the trace stands after a turn, and the place behind what was printed.
-#[derive(Drop)]
+#[derive(Clone, Copy)]
 pub struct Shown {
     pub place: Place,
     pub at: usize,

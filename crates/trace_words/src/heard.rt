@@ -5,7 +5,7 @@ ghost use Rattle.trace_words.specs.Heard.{heard_in};
 use case_text::line::Line;
 use qspi::bus::Reply;
 
-#[derive(Drop)]
+#[derive(Clone, Copy)]
 pub enum Heard {
     // Empty, or a comment.
     Passed,

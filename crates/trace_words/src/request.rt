@@ -24,7 +24,7 @@ const FIRST: usize = 2;
 const SECOND: usize = 3;
 
 // How a call is written.
-#[derive(Drop)]
+#[derive(Clone, Copy)]
 pub enum Form {
     // Its name alone.
     Plain,
@@ -38,14 +38,14 @@ pub enum Form {
     Unknown,
 }
 
-#[derive(Drop)]
+#[derive(Clone, Copy)]
 pub enum Loan {
     Lent(Takes),
     Malformed,
 }
 
 // A number that is not written is 0.
-#[derive(Drop)]
+#[derive(Clone, Copy)]
 pub enum Request {
     Numbers {
         first: u64,

@@ -1,0 +1,8 @@
+use native.Mathlib.Numerals.{add-one}
+use Rattle.case_text.specs.Line.{line_number}
+use borrow.Author.Rules.{rules}
+use Rattle.case_text.proofs.line.number_at.Goals as goal
+
+pub returns : goal.returns
+unfolding line_number
+returns c = simp (c.count.ensures.0, c.delivered.ensures, add-one)

@@ -1,0 +1,18 @@
+use Prim.Native.Nat.{suc, ◌+◌, ◌-◌, ◌*◌, ◌≤◌}
+use mathlib.Core.Path.{◌≡◌, refl, ◌∙◌}
+use native.Mathlib.Omega.{arith}
+use native.Mathlib.Numerals.{add-one}
+use lib.ListN.{length, drop, get_or}
+use borrow.Author.Rules.{rules}
+use Rattle.case_text.specs.Number.{digit_of, digits_in, value_from}
+use Rattle.case_text.proofs.Numbers.{digits-end, digits-bad, digits-on, value-end, value_on, value_grows, value-fits, value-past}
+use Rattle.case_text.proofs.Numbers.{none, no-digits, past, some}
+use Rattle.case_text.proofs.word.in_radix.Given as goal
+
+abbrev pub invariant-loop-i : goal.invariant-loop-i
+invariant-loop-i l = (digits_in l.radix l.digits ≡ digits_in l.radix (drop l.i l.digits))
+    × (value_from l.radix 0 l.digits ≡ value_from l.radix l.value (drop l.i l.digits))
+    × (l.value ≤ 18446744073709551615)
+
+abbrev pub decreases-loop-i : goal.decreases-loop-i
+decreases-loop-i l = length l.digits - l.i

@@ -1,0 +1,14 @@
+use Prim.Native.Nat.{◌-◌}
+use mathlib.Core.Path.{◌≡◌, refl, sym, ◌∙◌}
+use native.Mathlib.Omega.{arith}
+use lib.ListN.{length, drop}
+use borrow.Author.Rules.{rules}
+use Rattle.case_text.specs.Number.{is_hex_of}
+use Rattle.case_text.proofs.Numbers.{hex-end, hex-one, hex-bad, hex-bad-low, hex-on}
+use Rattle.case_text.proofs.word.is_hex.Given as goal
+
+abbrev pub invariant-loop-i : goal.invariant-loop-i
+invariant-loop-i l = is_hex_of (drop l.i l.s) ≡ is_hex_of l.s
+
+abbrev pub decreases-loop-i : goal.decreases-loop-i
+decreases-loop-i l = length l.s - l.i
