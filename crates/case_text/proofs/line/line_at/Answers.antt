@@ -6,4 +6,4 @@ use Rattle.case_text.proofs.line.line_at.Goals as goal
 
 pub returns : goal.returns
 unfolding line_at
-returns c = simp (← c.before-n.ensures.0, ← c.behind-left.ensures)
+returns c = simp (← c.before-n.ensures.value, ← c.behind-left.ensures)

@@ -11,7 +11,7 @@ pub returns-then-s-i-clause-value : goal.returns-then-s-i-clause-value
 returns-then-s-i-clause-value c =
     let a = c.args in
     let i = c.loop-i.i in
-    let e = before_here a.mark a.s.now i c.loop-i-test.true c.if-s-i.true in (omega arith, omega arith)
+    let e = before_here a.mark a.s.now i c.loop-i-test.true c.if-s-i.true in omega arith
 
 pub loop-i-preserved : goal.loop-i-preserved
 loop-i-preserved c =
@@ -22,4 +22,4 @@ loop-i-preserved c =
 pub returns-clause-value : goal.returns-clause-value
 returns-clause-value c =
     let a = c.args in
-    let e = before-end a.mark a.s.now c.loop-i.i c.loop-i-test.false in (omega arith, omega arith)
+    let e = before-end a.mark a.s.now c.loop-i.i c.loop-i-test.false in omega arith

@@ -21,4 +21,4 @@ loop-i-preserved c =
 pub returns-clause-value : goal.returns-clause-value
 returns-clause-value c =
     let a = c.args in
-    let e = count-end a.mark a.s.now c.loop-i.i c.loop-i-test.false in (omega arith, omega arith)
+    let e = count-end a.mark a.s.now c.loop-i.i c.loop-i-test.false in omega arith

@@ -19,7 +19,7 @@ returns-then-radix-d c =
     let l = b.before.loop in
     let s = a.digits.now in
     let d = c.wide-d.ensures in
-    let e = c.digit.ensures.0 in
+    let e = c.digit.ensures.value in
     no-digits a.radix s b.before.before.if1.false (l.invariant.0 ∙ digits-bad a.radix s l.i b.loop-test.true (omega arith))
 
 pub returns-then-d-radix : goal.returns-then-d-radix
@@ -29,7 +29,7 @@ returns-then-d-radix c =
     let l = b.before.loop in
     let s = a.digits.now in
     let d = c.wide-d.ensures in
-    let e = c.digit.ensures.0 in
+    let e = c.digit.ensures.value in
     let over = value-past a.radix l.value c.wide-d.result (omega arith) (omega arith) c.if-d-radix.true in
     let on = l.invariant.1 ∙ value_on a.radix s l.i l.value b.loop-test.true in
     let grown = value_grows a.radix (l.value * a.radix + digit_of (get_or s l.i 0)) (drop (suc l.i) s) (omega arith) in
@@ -43,7 +43,7 @@ loop-i-preserved c =
     let s = a.digits.now in
     let h = b.loop-test.true in
     let d = c.wide-d.ensures in
-    let e = c.digit.ensures.0 in
+    let e = c.digit.ensures.value in
     let fits = value-fits a.radix l.value c.wide-d.result (omega arith) (omega arith) c.if-d-radix.false in (
       rw add-one (l.invariant.0 ∙ digits-on a.radix s l.i h (omega arith)),
       rw (add-one, d, e) (l.invariant.1 ∙ value_on a.radix s l.i l.value h),

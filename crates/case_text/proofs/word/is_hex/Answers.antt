@@ -16,13 +16,13 @@ pub returns-then-digit-ge-NO_DIGIT : goal.returns-then-digit-ge-NO_DIGIT
 returns-then-digit-ge-NO_DIGIT c =
     let l = c.loop-i in
     let s = c.args.s.now in
-    sym (hex-bad s l.i (omega arith) (omega (arith, c.digit.ensures.0))) ∙ l.invariant
+    sym (hex-bad s l.i (omega arith) (omega (arith, c.digit.ensures.value))) ∙ l.invariant
 
 pub returns-then-digit-ge-NO_DIGIT-2 : goal.returns-then-digit-ge-NO_DIGIT-2
 returns-then-digit-ge-NO_DIGIT-2 c =
     let l = c.loop-i in
     let s = c.args.s.now in
-    let high = c.digit.ensures.0 in
+    let high = c.digit.ensures.value in
     let low = c.digit-in-loop-i.ensures.0 in
     sym (hex-bad-low s l.i (omega arith) (omega arith) (omega arith)) ∙ l.invariant
 
@@ -30,7 +30,7 @@ pub loop-i-preserved : goal.loop-i-preserved
 loop-i-preserved c =
     let l = c.loop-i in
     let s = c.args.s.now in
-    let high = c.digit.ensures.0 in
+    let high = c.digit.ensures.value in
     let low = c.digit-in-loop-i.ensures.0 in
     sym (hex-on s l.i (omega arith) (omega arith) (omega arith)) ∙ l.invariant
 

@@ -12,7 +12,7 @@ pub returns-then-left-n : goal.returns-then-left-n
 returns-then-left-n c =
     let l = c.loop-i in
     let k = c.args.k in
-    let e = c.before-n.ensures.0 in
+    let e = c.before-n.ensures.value in
     sym (word-past l.left.now (k - l.i) (omega arith) (omega arith)) ∙ l.invariant.0
 
 pub loop-i-preserved : goal.loop-i-preserved
@@ -23,7 +23,7 @@ loop-i-preserved c =
     let n = c.before-n.result in
     let rest = drop (n + 1) left in
     let e : take (length left - (n + 1)) rest ≡ rest = take_all (length left - (n + 1)) rest (simp length-drop (omega arith)) in
-    let d : n + 1 ≡ suc (before_of 32 left) = omega (arith, c.before-n.ensures.0) in
+    let d : n + 1 ≡ suc (before_of 32 left) = omega (arith, c.before-n.ensures.value) in
     let f : k - (l.i + 1) ≡ k - l.i - 1 = omega arith in (
       rw (e, d, f) (sym (word_next left (k - l.i) (omega arith)) ∙ l.invariant.0),
       omega arith,
@@ -34,4 +34,4 @@ pub returns : goal.returns
 returns c =
     let l = c.loop-i in
     let k = c.args.k in
-    rw c.before-n-2.ensures.0 (sym (word_first l.left.now (k - l.i) (omega arith)) ∙ l.invariant.0)
+    rw c.before-n-2.ensures.value (sym (word_first l.left.now (k - l.i) (omega arith)) ∙ l.invariant.0)

@@ -1,0 +1,7 @@
+use Rattle.lines.specs.Text.{appended}
+use borrow.Author.Rules.{rules}
+use Rattle.lines.proofs.line.colon.Goals as goal
+
+pub returns : goal.returns
+unfolding appended
+returns c = simp (c.put.ensures, c.put-behind.ensures)

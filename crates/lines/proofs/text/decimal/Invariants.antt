@@ -1,0 +1,16 @@
+use Prim.Native.Nat.{◌+◌, ◌-◌, ◌%◌, ◌≤◌}
+use mathlib.Core.Path.{◌≡◌, refl, ap₂, ◌∙◌}
+use mathlib.Core.List.{◌++◌, append-nil}
+use native.Mathlib.Omega.{arith}
+use lib.ListN.{length, drop, set, length-set, length-drop}
+use lib.Seq.{take_all}
+use borrow.Author.Rules.{rules}
+use Rattle.lines.specs.Text.{text_of, appended, digits_of, decimal_of}
+use Rattle.lines.proofs.Digits.{more-digits, first-digit, no_more}
+use Rattle.lines.proofs.text.decimal.Given as goal
+
+abbrev pub invariant-loop-i : goal.invariant-loop-i
+invariant-loop-i l = (digits_of l.i l.left ++ drop l.i l.digits ≡ decimal_of l.n) × (length l.digits ≡ 20) × (l.i ≤ 20) × (l.out ≡ l.initial.out)
+
+abbrev pub decreases-loop-i : goal.decreases-loop-i
+decreases-loop-i l = l.i

@@ -1,0 +1,12 @@
+use borrow.Author.Tests.{lt-ltb, le-ltb}
+use Rattle.lines.specs.Text.{digit_of}
+use borrow.Author.Rules.{rules}
+use Rattle.lines.proofs.text.digit.Goals as goal
+
+pub returns-then-d-lt10 : goal.returns-then-d-lt10
+unfolding digit_of
+returns-then-d-lt10 c = simp (lt-ltb _ _ c.if-d-lt10.true)
+
+pub returns-else-d-lt10 : goal.returns-else-d-lt10
+unfolding digit_of
+returns-else-d-lt10 c = simp (le-ltb _ _ c.if-d-lt10.false)

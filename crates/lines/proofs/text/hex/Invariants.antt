@@ -1,0 +1,16 @@
+use Prim.Native.Nat.{suc, ◌-◌}
+use mathlib.Core.Path.{◌≡◌, refl, sym, ◌∙◌}
+use native.Mathlib.Omega.{arith}
+use native.Mathlib.Numerals.{add-one}
+use lib.ListN.{length, drop, get_or, drop_of_length-le}
+use lib.Seq.{drop-cons}
+use borrow.Author.Rules.{rules}
+use Rattle.lines.specs.Text.{appended, text_of, hex_of, hex_byte}
+use Rattle.lines.proofs.Appending.{appended-behind}
+use Rattle.lines.proofs.text.hex.Given as goal
+
+abbrev pub invariant-loop-i : goal.invariant-loop-i
+invariant-loop-i l = (appended (hex_of (drop l.i l.s)) (text_of l.out l.behind) ≡ appended (hex_of l.s) (text_of l.initial.out l.at)) × (length l.out ≡ length l.initial.out)
+
+abbrev pub decreases-loop-i : goal.decreases-loop-i
+decreases-loop-i l = length l.s - l.i

@@ -1,0 +1,20 @@
+use Prim.Native.Nat.{◌-◌}
+use mathlib.Core.Path.{◌≡◌, refl}
+use native.Mathlib.Omega.{arith}
+use native.Mathlib.Numerals.{add-one}
+use lib.ListN.{length, drop, drop_of_length-le}
+use lib.Seq.{drop-cons}
+use borrow.Author.Rules.{rules}
+use Rattle.lines.specs.Text.{appended, text_of}
+use Rattle.lines.proofs.text.put_all.Goals as goal
+
+pub loop-i-preserved : goal.loop-i-preserved
+unfolding appended
+loop-i-preserved c =
+    let s = c.args.s.now in
+    let i = c.loop-i.i in
+    (rw (add-one, c.put-behind.ensures) (rw (drop-cons s i 0 c.loop-i-test.true) at c.loop-i.invariant.0), search rules)
+
+pub returns : goal.returns
+unfolding appended
+returns c = rw (drop_of_length-le _ c.loop-i-test.false) at c.loop-i.invariant.0
