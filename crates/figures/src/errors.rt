@@ -1,37 +1,38 @@
 // The number of each error, and its kind.
 use crate::line;
 use spi_flash::error::{FlashError, NorFlashErrorKind};
+use std::io;
 
-pub(crate) fn all() {
-    error(b"spi", FlashError::Spi(255));
-    error(b"timeout", FlashError::Timeout);
-    error(b"not_aligned", FlashError::NotAligned);
-    error(b"invalid_length", FlashError::InvalidLength);
-    error(b"out_of_bounds", FlashError::OutOfBounds);
-    error(b"verify_failed", FlashError::VerifyFailed);
-    error(b"write_enable_failed", FlashError::WriteEnableFailed);
-    error(b"uncorrectable_ecc", FlashError::UncorrectableEcc);
-    error(b"erase_failed", FlashError::EraseFailed);
-    error(b"program_failed", FlashError::ProgramFailed);
-    error(b"not_supported", FlashError::NotSupported);
-    error(b"invalid_geometry", FlashError::InvalidGeometry);
-    error(b"out_of_turn", FlashError::OutOfTurn);
-    error(b"misfit", FlashError::Misfit);
-    error(b"malformed_tape", FlashError::MalformedTape);
-    error(b"tape_spent", FlashError::TapeSpent);
+pub(crate) fn all(rt: &impl Print) -> io::Result<()> {
+    error(rt, "spi", FlashError::Spi(255))?;
+    error(rt, "timeout", FlashError::Timeout)?;
+    error(rt, "not_aligned", FlashError::NotAligned)?;
+    error(rt, "invalid_length", FlashError::InvalidLength)?;
+    error(rt, "out_of_bounds", FlashError::OutOfBounds)?;
+    error(rt, "verify_failed", FlashError::VerifyFailed)?;
+    error(rt, "write_enable_failed", FlashError::WriteEnableFailed)?;
+    error(rt, "uncorrectable_ecc", FlashError::UncorrectableEcc)?;
+    error(rt, "erase_failed", FlashError::EraseFailed)?;
+    error(rt, "program_failed", FlashError::ProgramFailed)?;
+    error(rt, "not_supported", FlashError::NotSupported)?;
+    error(rt, "invalid_geometry", FlashError::InvalidGeometry)?;
+    error(rt, "out_of_turn", FlashError::OutOfTurn)?;
+    error(rt, "misfit", FlashError::Misfit)?;
+    error(rt, "malformed_tape", FlashError::MalformedTape)?;
+    error(rt, "tape_spent", FlashError::TapeSpent)
 }
 
-fn error(name: &[u8], e: FlashError) {
-    line::name(name);
-    line::decimal(e.number() as u64);
-    kind(e.nor_flash_kind());
-    line::end();
+fn error(rt: &impl Print, name: &str, e: FlashError) -> io::Result<()> {
+    line::name(rt, name)?;
+    line::decimal(rt, e.number() as u64)?;
+    kind(rt, e.nor_flash_kind())?;
+    line::end(rt)
 }
 
-fn kind(k: NorFlashErrorKind) {
+fn kind(rt: &impl Print, k: NorFlashErrorKind) -> io::Result<()> {
     match k {
-        NorFlashErrorKind::NotAligned => line::word(b"kind_not_aligned"),
-        NorFlashErrorKind::OutOfBounds => line::word(b"kind_out_of_bounds"),
-        NorFlashErrorKind::Other => line::word(b"kind_other"),
+        NorFlashErrorKind::NotAligned => line::word(rt, "kind_not_aligned"),
+        NorFlashErrorKind::OutOfBounds => line::word(rt, "kind_out_of_bounds"),
+        NorFlashErrorKind::Other => line::word(rt, "kind_other"),
     }
 }

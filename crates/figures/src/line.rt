@@ -1,48 +1,40 @@
 // A line: a name, its values with a blank before each, and its end.
 use spi_flash::wait::Timings;
+use std::io;
 
-const STDOUT: i32 = 1;
-
-pub(crate) fn name(text: &[u8]) {
-    io::write_all(STDOUT, text);
+pub(crate) fn name(rt: &impl Print, text: &str) -> io::Result<()> {
+    print!(rt; "{text}")
 }
 
-pub(crate) fn word(text: &[u8]) {
-    io::write_all(STDOUT, b" ");
-    io::write_all(STDOUT, text);
+pub(crate) fn word(rt: &impl Print, text: &str) -> io::Result<()> {
+    print!(rt; " {text}")
 }
 
-pub(crate) fn decimal(n: u64) {
-    io::write_all(STDOUT, b" ");
-    io::print_decimal(STDOUT, n);
+pub(crate) fn decimal(rt: &impl Print, n: u64) -> io::Result<()> {
+    print!(rt; " {n}")
 }
 
-pub(crate) fn byte(b: u8) {
-    io::write_all(STDOUT, b" ");
-    io::print_hex(STDOUT, b as u64, 2);
+pub(crate) fn byte(rt: &impl Print, b: u8) -> io::Result<()> {
+    print!(rt; " {b:02x}")
 }
 
-pub(crate) fn size(n: usize) {
-    decimal(n as u64);
+pub(crate) fn size(rt: &impl Print, n: usize) -> io::Result<()> {
+    decimal(rt, n as u64)
 }
 
-pub(crate) fn answer(yes: bool) {
-    if yes {
-        word(b"yes");
-    } else {
-        word(b"no");
-    }
+pub(crate) fn answer(rt: &impl Print, yes: bool) -> io::Result<()> {
+    if yes { word(rt, "yes") } else { word(rt, "no") }
 }
 
-pub(crate) fn end() {
-    io::write_all(STDOUT, b"\n");
+pub(crate) fn end(rt: &impl Print) -> io::Result<()> {
+    println!(rt; "")
 }
 
 // A row of a wait table: first delay, poll delay, limit.
-pub(crate) fn wait(text: &[u8], row: Timings) {
-    name(text);
-    decimal(row.initial_us as u64);
-    decimal(row.poll_us as u64);
-    decimal(row.timeout_us as u64);
-    end();
+pub(crate) fn wait(rt: &impl Print, text: &str, row: Timings) -> io::Result<()> {
+    name(rt, text)?;
+    decimal(rt, row.initial_us as u64)?;
+    decimal(rt, row.poll_us as u64)?;
+    decimal(rt, row.timeout_us as u64)?;
+    end(rt)
 }

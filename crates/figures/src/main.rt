@@ -6,14 +6,16 @@ mod line;
 mod nand;
 mod nor;
 
-fn main() {
-    nand::ids();
-    nand::sizes();
-    nand::waits();
-    nand::bounds();
-    nor::ids();
-    nor::codes();
-    nor::waits();
-    nor::bounds();
-    errors::all();
+use std::io;
+
+fn main(rt: HostRuntime) -> io::Result<()> {
+    nand::ids(&rt)?;
+    nand::sizes(&rt)?;
+    nand::waits(&rt)?;
+    nand::bounds(&rt)?;
+    nor::ids(&rt)?;
+    nor::codes(&rt)?;
+    nor::waits(&rt)?;
+    nor::bounds(&rt)?;
+    errors::all(&rt)
 }

@@ -1,3 +1,2 @@
 // What holds over a whole replay, whichever driver it is of: specs and proofs alone, no code.
 #![tactic(auto)]
-

@@ -5,4 +5,4 @@ use Rattle.case_text.proofs.line.number_at.Goals as goal
 
 pub returns : goal.returns
 unfolding line_number
-returns c = simp (c.count.ensures.0, c.delivered.ensures, add-one)
+returns c = simp (c.count.ensures.value, c.delivered.ensures, add-one)

@@ -20,4 +20,4 @@ pub returns : goal.returns
 unfolding read_at
 returns c =
     let h0 : c.next_line.result < 4194305 = omega arith in
-    let h1 = c.if-text-at.false in simp (c.read.ensures, c.line_at_lem.ensures, ← c.next_line.ensures, tests)
+    let h1 = c.if-text-at.false in simp (c.read.ensures, c.line_at.ensures, ← c.next_line.ensures, tests)

@@ -19,40 +19,40 @@ returns-then-c-lt-UPPER_A-clause-value c = simp (le-ltb _ _ c.if-c-lt-ZERO.false
 pub returns-then-c-le-UPPER_F-clause-value : goal.returns-then-c-le-UPPER_F-clause-value
 unfolding digit_of
 returns-then-c-le-UPPER_F-clause-value c = simp (
-    le-ltb _ _ c.if-c-lt-ZERO.false,
-    lt-leb _ _ c.if-c-le-NINE.false,
-    le-ltb _ _ c.if-c-lt-UPPER_A.false,
-    le-leb _ _ c.if-c-le-UPPER_F.true,
-  )
+  le-ltb _ _ c.if-c-lt-ZERO.false,
+  lt-leb _ _ c.if-c-le-NINE.false,
+  le-ltb _ _ c.if-c-lt-UPPER_A.false,
+  le-leb _ _ c.if-c-le-UPPER_F.true,
+)
 
 pub returns-then-c-lt-LOWER_A-clause-value : goal.returns-then-c-lt-LOWER_A-clause-value
 unfolding digit_of
 returns-then-c-lt-LOWER_A-clause-value c = simp (
-    le-ltb _ _ c.if-c-lt-ZERO.false,
-    lt-leb _ _ c.if-c-le-NINE.false,
-    le-ltb _ _ c.if-c-lt-UPPER_A.false,
-    lt-leb _ _ c.if-c-le-UPPER_F.false,
-    lt-ltb _ _ c.if-c-lt-LOWER_A.true,
-  )
+  le-ltb _ _ c.if-c-lt-ZERO.false,
+  lt-leb _ _ c.if-c-le-NINE.false,
+  le-ltb _ _ c.if-c-lt-UPPER_A.false,
+  lt-leb _ _ c.if-c-le-UPPER_F.false,
+  lt-ltb _ _ c.if-c-lt-LOWER_A.true,
+)
 
 pub returns-then-c-le-LOWER_F-clause-value : goal.returns-then-c-le-LOWER_F-clause-value
 unfolding digit_of
 returns-then-c-le-LOWER_F-clause-value c = simp (
-    le-ltb _ _ c.if-c-lt-ZERO.false,
-    lt-leb _ _ c.if-c-le-NINE.false,
-    le-ltb _ _ c.if-c-lt-UPPER_A.false,
-    lt-leb _ _ c.if-c-le-UPPER_F.false,
-    le-ltb _ _ c.if-c-lt-LOWER_A.false,
-    le-leb _ _ c.if-c-le-LOWER_F.true,
-  )
+  le-ltb _ _ c.if-c-lt-ZERO.false,
+  lt-leb _ _ c.if-c-le-NINE.false,
+  le-ltb _ _ c.if-c-lt-UPPER_A.false,
+  lt-leb _ _ c.if-c-le-UPPER_F.false,
+  le-ltb _ _ c.if-c-lt-LOWER_A.false,
+  le-leb _ _ c.if-c-le-LOWER_F.true,
+)
 
 pub returns-clause-value : goal.returns-clause-value
 unfolding digit_of
 returns-clause-value c = simp (
-    le-ltb _ _ c.if-c-lt-ZERO.false,
-    lt-leb _ _ c.if-c-le-NINE.false,
-    le-ltb _ _ c.if-c-lt-UPPER_A.false,
-    lt-leb _ _ c.if-c-le-UPPER_F.false,
-    le-ltb _ _ c.if-c-lt-LOWER_A.false,
-    lt-leb _ _ c.if-c-le-LOWER_F.false,
-  )
+  le-ltb _ _ c.if-c-lt-ZERO.false,
+  lt-leb _ _ c.if-c-le-NINE.false,
+  le-ltb _ _ c.if-c-lt-UPPER_A.false,
+  lt-leb _ _ c.if-c-le-UPPER_F.false,
+  le-ltb _ _ c.if-c-lt-LOWER_A.false,
+  lt-leb _ _ c.if-c-le-LOWER_F.false,
+)

@@ -14,34 +14,31 @@ returns-then-digits-eq0 c = let a = c.args in none a.radix a.digits.now c.if-dig
 
 pub returns-then-radix-d : goal.returns-then-radix-d
 returns-then-radix-d c =
-    let b = c.before in
-    let a = b.before.before.before.before.args in
-    let l = b.before.loop in
+    let a = c.args in
+    let l = c.loop-i in
     let s = a.digits.now in
     let d = c.wide-d.ensures in
     let e = c.digit.ensures.value in
-    no-digits a.radix s b.before.before.if1.false (l.invariant.0 ∙ digits-bad a.radix s l.i b.loop-test.true (omega arith))
+    no-digits a.radix s c.if-digits-eq0.false (l.invariant.0 ∙ digits-bad a.radix s l.i c.loop-i-test.true (omega arith))
 
 pub returns-then-d-radix : goal.returns-then-d-radix
 returns-then-d-radix c =
-    let b = c.before in
-    let a = b.before.before.before.before.args in
-    let l = b.before.loop in
+    let a = c.args in
+    let l = c.loop-i in
     let s = a.digits.now in
     let d = c.wide-d.ensures in
     let e = c.digit.ensures.value in
     let over = value-past a.radix l.value c.wide-d.result (omega arith) (omega arith) c.if-d-radix.true in
-    let on = l.invariant.1 ∙ value_on a.radix s l.i l.value b.loop-test.true in
+    let on = l.invariant.1 ∙ value_on a.radix s l.i l.value c.loop-i-test.true in
     let grown = value_grows a.radix (l.value * a.radix + digit_of (get_or s l.i 0)) (drop (suc l.i) s) (omega arith) in
-    past a.radix s b.before.before.if1.false (omega arith)
+    past a.radix s c.if-digits-eq0.false (omega arith)
 
 pub loop-i-preserved : goal.loop-i-preserved
 loop-i-preserved c =
-    let b = c.before in
-    let a = b.before.before.before.before.args in
-    let l = b.before.loop in
+    let a = c.args in
+    let l = c.loop-i in
     let s = a.digits.now in
-    let h = b.loop-test.true in
+    let h = c.loop-i-test.true in
     let d = c.wide-d.ensures in
     let e = c.digit.ensures.value in
     let fits = value-fits a.radix l.value c.wide-d.result (omega arith) (omega arith) c.if-d-radix.false in (

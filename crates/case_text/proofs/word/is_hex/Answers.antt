@@ -23,7 +23,7 @@ returns-then-digit-ge-NO_DIGIT-2 c =
     let l = c.loop-i in
     let s = c.args.s.now in
     let high = c.digit.ensures.value in
-    let low = c.digit-in-loop-i.ensures.0 in
+    let low = c.digit-in-loop-i.ensures.value in
     sym (hex-bad-low s l.i (omega arith) (omega arith) (omega arith)) ∙ l.invariant
 
 pub loop-i-preserved : goal.loop-i-preserved
@@ -31,7 +31,7 @@ loop-i-preserved c =
     let l = c.loop-i in
     let s = c.args.s.now in
     let high = c.digit.ensures.value in
-    let low = c.digit-in-loop-i.ensures.0 in
+    let low = c.digit-in-loop-i.ensures.value in
     sym (hex-on s l.i (omega arith) (omega arith) (omega arith)) ∙ l.invariant
 
 pub returns : goal.returns

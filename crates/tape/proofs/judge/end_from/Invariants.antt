@@ -1,0 +1,14 @@
+use Prim.Native.Nat.{◌-◌, ◌<◌}
+use mathlib.Core.Path.{◌≡◌, refl, sym, ◌∙◌}
+use native.Mathlib.Omega.{arith}
+use borrow.Author.Rules.{rules}
+use Rattle.tape.specs.Record.{trailer_at, taken_at}
+use Rattle.tape.specs.Judge.{end_from}
+use Rattle.tape.proofs.Walk.{end_step, end-here, next-within}
+use Rattle.tape.proofs.judge.end_from.Given as goal
+
+abbrev pub invariant-loop-at : goal.invariant-loop-at
+invariant-loop-at l = (end_from l.tape l.at ≡ end_from l.tape l.from) × (l.next ≡ (taken_at l.tape l.at).next)
+
+abbrev pub decreases-loop-at : goal.decreases-loop-at
+decreases-loop-at l = trailer_at l.tape - l.at

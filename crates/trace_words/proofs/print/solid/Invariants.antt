@@ -1,0 +1,16 @@
+use Prim.Native.Nat.{◌-◌}
+use mathlib.Core.Path.{◌≡◌, refl, ◌∙◌}
+use native.Mathlib.Omega.{arith}
+use native.Mathlib.Numerals.{add-one}
+use lib.ListN.{length, drop, drop_of_length-le}
+use borrow.Author.Rules.{rules}
+use Rattle.lines.specs.Text.{appended, text_of}
+use Rattle.trace_words.specs.Print.{solid_of}
+use Rattle.trace_words.proofs.Pieces.{next-solid}
+use Rattle.trace_words.proofs.print.solid.Given as goal
+
+abbrev pub invariant-loop-i : goal.invariant-loop-i
+invariant-loop-i l = (appended (solid_of (drop l.i l.s)) (text_of l.out l.behind) ≡ appended (solid_of l.s) (text_of l.initial.out l.at)) × (length l.out ≡ length l.initial.out)
+
+abbrev pub decreases-loop-i : goal.decreases-loop-i
+decreases-loop-i l = length l.s - l.i
