@@ -5,11 +5,8 @@
 use case_text::word;
 use flash_calls::call::Kind;
 use qspi::bytes;
+use std::io;
 use trace_case::case;
-
-const STDIN: i32 = 0;
-
-const STDOUT: i32 = 1;
 
 const MARK: u8 = 37;
 // The mark and its line feed.
@@ -26,23 +23,24 @@ const MOST: usize = 65536;
 
 // Here and below the memory is lent as arrays: only their length is asked for then.
 fn print(
+    rt: &impl Print,
     kind: Kind,
     text: &[u8],
     room: &mut [u8; MOST],
     reply: &mut [u8; MOST],
     out: &mut [u8; MOST],
-) {
+) -> io::Result<()> {
     let n = case::traced(kind, text, room, reply, out);
-    io::write_all(STDOUT, bytes::delivered(out, n));
-    io::write_all(STDOUT, b"%\n");
+    streams::write_all(rt, bytes::delivered(out, n))?;
+    streams::write_all(rt, b"%\n")
 }
 
 // Prints the trace of one case.
-fn show(kind: Kind, text: &[u8]) {
+fn show(rt: &impl Print, kind: Kind, text: &[u8]) -> io::Result<()> {
     let mut room = [0u8; MOST];
     let mut reply = [0u8; MOST];
     let mut out = [0u8; MOST];
-    print(kind, text, &mut room, &mut reply, &mut out);
+    print(rt, kind, text, &mut room, &mut reply, &mut out)
 }
 
 // Behind an empty case the NAND's begin.
@@ -50,24 +48,25 @@ fn kind_behind(kind: Kind, len: usize) -> Kind {
     if len == 0 { Kind::Nand } else { kind }
 }
 
-fn print_cases(input: &mut [u8; INPUT]) {
-    let n = io::read_full(STDIN, input);
+fn print_cases<R: Input + Print>(rt: &R, input: &mut [u8; INPUT]) -> io::Result<()> {
+    let n = streams::read_full(rt, input)?;
     let mut left = bytes::delivered(input, n);
     let mut kind = Kind::Nor;
     let mut i = 0;
     while i < CASES_MOST {
         if left.len() == 0 {
-            return;
+            return Ok(());
         }
         let len = word::before(left, MARK);
-        show(kind, bytes::delivered(left, len));
+        show(rt, kind, bytes::delivered(left, len))?;
         kind = kind_behind(kind, len);
         left = word::behind(word::behind(left, len), MARK_LEN);
         i += 1;
     }
+    Ok(())
 }
 
-fn main() {
+fn main(rt: HostRuntime) -> io::Result<()> {
     let mut input = [0u8; INPUT];
-    print_cases(&mut input);
+    print_cases(&rt, &mut input)
 }

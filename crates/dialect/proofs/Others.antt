@@ -1,11 +1,9 @@
 -- A driver that has given no action awaits no reply.
 use Prim.Native.Nat.{ℕ}
-use types.Run.{OneOf, miss}
-use denote.Enum.Declared.{tag_of}
-use mathlib.Core.List.{List, [], ◌∷◌}
+use mathlib.Core.List.{List}
 use mathlib.Core.Path.{◌≡◌, refl}
+use Rattle.qspi.specs.declared.bus.Action.{Action}
 use Rattle.flash_calls.specs.declared.given.Given.{Given}
-use Rattle.flash_calls.specs.contracts.given.Given as goal
 use Rattle.trace_turns.specs.Place.{in_mode}
 use Rattle.trace_turns.specs.declared.place.Mode.{Mode}
 use Rattle.trace_turns.specs.declared.place.Place.{Place}
@@ -14,10 +12,10 @@ use Rattle.dialect.specs.declared.hears.Hears.{Hears}
 use Rattle.dialect.specs.declared.settings.Settings.{Settings}
 
 pub nothing-out : (g : Given) (place : Place) (settings : Settings) (text : List ℕ) (room : ℕ) (reply : List ℕ) →
-    OneOf (1 ∷ 2 ∷ 3 ∷ []) (tag_of goal.the_type g) →
+    ((action : Action) → g ≡ Given.Act action → ⊥) →
     hears_to (Hears.Stay (in_mode place Mode.Giving)) reply ≡ awaited_of g place settings text room reply
 unfolding awaited_of
-nothing-out (Given.Act action) place settings text room reply one = absurd (miss (1 ∷ 2 ∷ 3 ∷ []) 0 tt one)
-nothing-out (Given.Ended answer) place settings text room reply one = refl
-nothing-out (Given.Failed error) place settings text room reply one = refl
-nothing-out (Given.Refused error) place settings text room reply one = refl
+nothing-out (Given.Act action) place settings text room reply other = absurd (other action refl)
+nothing-out (Given.Ended answer) place settings text room reply other = refl
+nothing-out (Given.Failed error) place settings text room reply other = refl
+nothing-out (Given.Refused error) place settings text room reply other = refl

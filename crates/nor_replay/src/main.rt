@@ -3,18 +3,15 @@
 
 use nor_tape::{program, replay};
 use qspi::bytes;
-
-const STDIN: i32 = 0;
-
-const STDOUT: i32 = 1;
+use std::io;
 
 // A construction without quad mode gives out five actions; the line of the end is the sixth.
 const LINES_MOST: u32 = 6;
 
-fn main() {
+fn main(rt: HostRuntime) -> io::Result<()> {
     // One byte more than the longest tape, to tell a longer one.
     let mut input = [0u8; 65537];
-    let n = io::read_full(STDIN, &mut input);
+    let n = streams::read_full(&rt, &mut input)?;
     let tape = bytes::delivered(&input, n);
     let mut scratch = [0u8; 264];
     let mut buffer = [0u8; 0];
@@ -24,11 +21,12 @@ fn main() {
     let mut i: u32 = 0;
     while i < LINES_MOST {
         let len = program::line(now, &scratch, &mut out);
-        io::write_all(STDOUT, bytes::delivered(&out, len));
+        streams::write_all(&rt, bytes::delivered(&out, len))?;
         if program::over(now) {
-            return;
+            return Ok(());
         }
         now = replay::advance(now, tape, &mut scratch, &mut buffer, &data);
         i += 1;
     }
+    Ok(())
 }

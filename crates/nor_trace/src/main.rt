@@ -2,8 +2,9 @@
 #![tactic(auto)]
 
 use flash_calls::call::Kind;
+use std::io;
 use trace::program;
 
-fn main() {
-    program::trace(Kind::Nor);
+fn main(rt: HostRuntime) -> io::Result<()> {
+    program::trace(&rt, Kind::Nor)
 }

@@ -9,8 +9,7 @@ use trace_case::case;
 
 // Puts the trace of a case into out and gives its length. What has no place there is cut. The room is the memory for a call's
 // buffer or data, the reply that for the bytes of a data reply.
-#[unsafe(no_mangle)]
-pub extern "C" fn nor_trace_case(
+pub fn nor_trace_case(
     text: &[u8],
     room: &mut [u8],
     reply: &mut [u8],

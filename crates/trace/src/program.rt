@@ -1,12 +1,9 @@
 // The case on standard input, and its trace on standard output.
 use flash_calls::call::Kind;
 use qspi::bytes;
+use std::io;
 use trace_case::advance;
 use trace_turns::{budget, place};
-
-const STDIN: i32 = 0;
-
-const STDOUT: i32 = 1;
 
 // One byte more than the longest text, to tell a longer one.
 const INPUT: usize = 4194305;
@@ -22,38 +19,47 @@ const REPLY: usize = 65536;
 const OUT: usize = 196700;
 
 // Each turn is printed before the next one.
-fn print_case(kind: Kind, text: &[u8], room: &mut [u8], reply: &mut [u8], out: &mut [u8]) {
+fn print_case(
+    rt: &impl Print,
+    kind: Kind,
+    text: &[u8],
+    room: &mut [u8],
+    reply: &mut [u8],
+    out: &mut [u8],
+) -> io::Result<()> {
     let mut scratch = [0u8; 264];
     let mut trace = advance::start(kind);
     let most = budget::budget(text.len(), room.len());
     let mut i = 0;
     while i < most {
         trace = advance::advance(trace, text, &mut scratch, room, reply, out, 0);
-        io::write_all(STDOUT, bytes::delivered(out, trace.at));
+        streams::write_all(rt, bytes::delivered(out, trace.at))?;
         let place = trace.place;
         if place::over(place) {
-            return;
+            return Ok(());
         }
         i += 1;
     }
+    Ok(())
 }
 
 // The memory is lent as arrays: of a long one only the length is asked for then.
-fn run(
+fn run<R: Input + Print>(
+    rt: &R,
     kind: Kind,
     input: &mut [u8; INPUT],
     room: &mut [u8; ROOM],
     reply: &mut [u8; REPLY],
     out: &mut [u8; OUT],
-) {
-    let n = io::read_full(STDIN, input);
-    print_case(kind, bytes::delivered(input, n), room, reply, out);
+) -> io::Result<()> {
+    let n = streams::read_full(rt, input)?;
+    print_case(rt, kind, bytes::delivered(input, n), room, reply, out)
 }
 
-pub fn trace(kind: Kind) {
+pub fn trace<R: Input + Print>(rt: &R, kind: Kind) -> io::Result<()> {
     let mut input = [0u8; INPUT];
     let mut room = [0u8; ROOM];
     let mut reply = [0u8; REPLY];
     let mut out = [0u8; OUT];
-    run(kind, &mut input, &mut room, &mut reply, &mut out);
+    run(rt, kind, &mut input, &mut room, &mut reply, &mut out)
 }

@@ -1,8 +1,6 @@
 -- The line of an answer's or an error's values, piece by piece.
 use Prim.Native.Nat.{ℕ, suc, ◌<◌, ◌≤◌}
 use native.Mathlib.Omega.{arith}
-use types.Run.{OneOf, miss}
-use denote.Enum.Declared.{tag_of}
 use mathlib.Core.Path.{◌≡◌, refl}
 use mathlib.Core.List.{List, [], ◌∷◌}
 use lib.ListN.{length, drop, get_or, drop_of_length-le}
@@ -12,7 +10,6 @@ use Rattle.lines.specs.Line.{field_of}
 use Rattle.lines.proofs.Appending.{appended-behind}
 use Rattle.spi_flash.specs.declared.error.FlashError.{FlashError}
 use Rattle.spi_flash.specs.Error.{error_values}
-use Rattle.spi_flash.specs.contracts.error.FlashError as error
 use Rattle.trace_words.specs.Print.{fields_of, values_line}
 
 pub no-values : (vs : List ℕ) (t : Text) → length vs ≡ 0 → t ≡ appended (values_line vs) t
@@ -35,21 +32,21 @@ unfolding appended fields_of
 no-field-left vs i t h = rw (drop_of_length-le vs h)
 
 -- only a bus error has a value
-pub none-but-a-code : (e : FlashError) (t : Text) → OneOf (1 ∷ 2 ∷ 3 ∷ 4 ∷ 5 ∷ 6 ∷ 7 ∷ 8 ∷ 9 ∷ 10 ∷ 11 ∷ 12 ∷ 13 ∷ 14 ∷ 15 ∷ []) (tag_of error.the_type e) → t ≡ appended (values_line (error_values e)) t
+pub none-but-a-code : (e : FlashError) (t : Text) → ((code : ℕ) → e ≡ FlashError.Spi code → ⊥) → t ≡ appended (values_line (error_values e)) t
 unfolding appended values_line
-none-but-a-code (FlashError.Spi code) t one = absurd (miss (1 ∷ 2 ∷ 3 ∷ 4 ∷ 5 ∷ 6 ∷ 7 ∷ 8 ∷ 9 ∷ 10 ∷ 11 ∷ 12 ∷ 13 ∷ 14 ∷ 15 ∷ []) 0 tt one)
-none-but-a-code FlashError.Timeout t one = refl
-none-but-a-code FlashError.NotAligned t one = refl
-none-but-a-code FlashError.InvalidLength t one = refl
-none-but-a-code FlashError.OutOfBounds t one = refl
-none-but-a-code FlashError.VerifyFailed t one = refl
-none-but-a-code FlashError.WriteEnableFailed t one = refl
-none-but-a-code FlashError.UncorrectableEcc t one = refl
-none-but-a-code FlashError.EraseFailed t one = refl
-none-but-a-code FlashError.ProgramFailed t one = refl
-none-but-a-code FlashError.NotSupported t one = refl
-none-but-a-code FlashError.InvalidGeometry t one = refl
-none-but-a-code FlashError.OutOfTurn t one = refl
-none-but-a-code FlashError.Misfit t one = refl
-none-but-a-code FlashError.MalformedTape t one = refl
-none-but-a-code FlashError.TapeSpent t one = refl
+none-but-a-code (FlashError.Spi code) t none = absurd (none code refl)
+none-but-a-code FlashError.Timeout t none = refl
+none-but-a-code FlashError.NotAligned t none = refl
+none-but-a-code FlashError.InvalidLength t none = refl
+none-but-a-code FlashError.OutOfBounds t none = refl
+none-but-a-code FlashError.VerifyFailed t none = refl
+none-but-a-code FlashError.WriteEnableFailed t none = refl
+none-but-a-code FlashError.UncorrectableEcc t none = refl
+none-but-a-code FlashError.EraseFailed t none = refl
+none-but-a-code FlashError.ProgramFailed t none = refl
+none-but-a-code FlashError.NotSupported t none = refl
+none-but-a-code FlashError.InvalidGeometry t none = refl
+none-but-a-code FlashError.OutOfTurn t none = refl
+none-but-a-code FlashError.Misfit t none = refl
+none-but-a-code FlashError.MalformedTape t none = refl
+none-but-a-code FlashError.TapeSpent t none = refl

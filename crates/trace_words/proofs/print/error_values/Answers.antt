@@ -6,7 +6,7 @@ use borrow.Author.Rules.{rules}
 use Rattle.trace_words.proofs.print.error_values.Goals as goal
 
 pub returns-in_default : goal.returns-in_default
-returns-in_default c = none-but-a-code c.args.error _ c.in-Spi.keys2
+returns-in_default c = none-but-a-code c.args.error _ c.in_default.not-Spi
 
 pub returns : goal.returns
 unfolding appended values_line fields_of

@@ -10,12 +10,11 @@ use Rattle.trace_words.proofs.Pieces.{next-solid}
 use Rattle.trace_words.proofs.print.solid.Goals as goal
 
 pub loop-i-preserved : goal.loop-i-preserved
-loop-i-preserved c =
-    (
-      rw (add-one, c.put-behind-in-loop-i.ensures, c.digit-in-loop-i.ensures, c.put-behind.ensures, c.digit.ensures)
-          (next-solid _ _ _ c.loop-i-test.true ∙ c.loop-i.invariant.0),
-      search rules,
-    )
+loop-i-preserved c = (
+  rw (add-one, c.put-behind-in-loop-i.ensures, c.digit-in-loop-i.ensures, c.put-behind.ensures, c.digit.ensures)
+      (next-solid _ _ _ c.loop-i-test.true ∙ c.loop-i.invariant.0),
+  search rules,
+)
 
 pub returns : goal.returns
 unfolding appended solid_of

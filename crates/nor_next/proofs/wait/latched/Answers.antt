@@ -1,0 +1,11 @@
+use Rattle.nor_next.specs.Wait.{latched_then}
+use borrow.Author.Rules.{rules}
+use Rattle.nor_next.proofs.wait.latched.Goals as goal
+
+pub returns-then-write_enabled : goal.returns-then-write_enabled
+unfolding latched_then
+returns-then-write_enabled c = simp (c.if-write_enabled.true, ← c.go.ensures, ← c.task_transfer.ensures, ← c.write_enabled.ensures)
+
+pub returns : goal.returns
+unfolding latched_then
+returns c = simp (c.if-write_enabled.false, ← c.write_enabled.ensures)

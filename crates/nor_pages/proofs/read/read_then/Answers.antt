@@ -1,0 +1,11 @@
+use Rattle.nor_pages.specs.Read.{read_then}
+use borrow.Author.Rules.{rules}
+use Rattle.nor_pages.proofs.read.read_then.Goals as goal
+
+pub returns-then-in_range : goal.returns-then-in_range
+unfolding read_then
+returns-then-in_range c = simp (c.if-in_range.true, ← c.read_from.ensures, ← c.in_range.ensures)
+
+pub returns : goal.returns
+unfolding read_then
+returns c = simp (c.if-in_range.false, ← c.in_range.ensures)

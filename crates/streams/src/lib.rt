@@ -1,0 +1,29 @@
+// Bytes in from standard input and out to standard output.
+#![tactic(auto)]
+
+ghost use Rattle.std.specs.Prelude.{◌≤◌, length, IfOk};
+
+use std::io;
+use std::io::{Read, Write};
+
+// Reads until the buffer is full or the input ends, and gives how many bytes were put at its start.
+pub fn read_full(rt: &impl Input, buf: &mut [u8]) -> io::Result<usize>
+    ensures { IfOk result (λ n. n ≤ length buf.new) }
+{
+    let mut reader = rt.reader();
+    let mut done = 0;
+    while done < buf.len() {
+        let n = reader.read(&mut buf[done..])?;
+        if n == 0 {
+            break;
+        }
+        done += n;
+    }
+    Ok(done)
+}
+
+// Writes all of the bytes.
+pub fn write_all(rt: &impl Print, bytes: &[u8]) -> io::Result<()> {
+    let mut writer = io::writer(rt);
+    writer.write_all(bytes)
+}

@@ -1,0 +1,21 @@
+// The NOR's trace as a function of C.
+ghost use Rattle.std.specs.Prelude.{◌≡◌};
+ghost use Rattle.lines.specs.Text.{text_of};
+ghost use Rattle.flash_calls.specs.declared.call.Kind.{Kind};
+ghost use Rattle.trace_case.specs.Case.{case_of};
+
+
+// See `trace::nor`.
+#[unsafe(no_mangle)]
+pub extern "C" fn nor_trace_case(
+    text: &[u8],
+    room: &mut [u8],
+    reply: &mut [u8],
+    out: &mut [u8],
+) -> usize
+    ensures result_after { text_of out.new result ≡ (case_of Kind.Nor text.now room.old reply.old out.old).text }
+    ensures room_after { room.new ≡ (case_of Kind.Nor text.now room.old reply.old out.old).room }
+    ensures reply_after { reply.new ≡ (case_of Kind.Nor text.now room.old reply.old out.old).reply }
+{
+    trace::nor::nor_trace_case(text, room, reply, out)
+}
