@@ -3,13 +3,13 @@ use flash_calls::given::Given;
 use nand_driver::state::SpiNandFlash;
 use nor_driver::state::SpiNorFlash;
 
-#[derive(Drop)]
+#[derive(Clone, Copy)]
 pub enum Flash {
     Nor(SpiNorFlash),
     Nand(SpiNandFlash),
 }
 
-#[derive(Drop)]
+#[derive(Clone, Copy)]
 pub struct Stepped {
     pub flash: Flash,
     pub given: Given,

@@ -12,7 +12,7 @@ use spi_flash::error::FlashError;
 use tape::{judge, reader, record};
 
 // The driver with what it gave last, and the position of the reader's next record.
-#[derive(Drop)]
+#[derive(Clone, Copy)]
 pub struct Replay {
     pub stepped: Stepped,
     pub at: usize,

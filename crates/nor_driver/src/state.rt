@@ -21,7 +21,7 @@ pub enum Running {
     Busy(Job),
 }
 
-#[derive(Drop)]
+#[derive(Clone, Copy)]
 pub struct SpiNorFlash {
     pub setup: Setup,
     // The last construction begun has succeeded.
@@ -42,7 +42,7 @@ pub enum Given {
     Refused(FlashError),
 }
 
-#[derive(Drop)]
+#[derive(Clone, Copy)]
 pub struct Stepped {
     pub flash: SpiNorFlash,
     pub given: Given,

@@ -7,7 +7,7 @@ ghost use Rattle.tape.specs.Reader.{reader_at, read_to, next_of};
 use crate::record;
 use crate::record::{Record, Taken};
 
-#[derive(Drop)]
+#[derive(Clone, Copy)]
 pub struct Reader<'a> {
     pub tape: &'a [u8],
     pub at: usize,

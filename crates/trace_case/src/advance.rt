@@ -14,7 +14,7 @@ use flash_turns::{state, turn};
 use trace_turns::place;
 use trace_turns::place::Place;
 
-#[derive(Drop)]
+#[derive(Clone, Copy)]
 pub struct Trace {
     // The driver with what it gave last.
     pub stepped: Stepped,

@@ -1,0 +1,7 @@
+use Rattle.spi_flash.specs.Settling.{settled}
+use borrow.Author.Rules.{rules}
+use Rattle.nor_driver.proofs.call.raise.Goals as goal
+
+pub returns : goal.returns
+unfolding settled
+returns c = simp (← c.fresh-setup.ensures) (rw c.resting.ensures at c.start.ensures)
