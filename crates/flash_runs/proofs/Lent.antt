@@ -26,7 +26,7 @@ use Rattle.flash_runs.specs.Promises.{Demand1}
 use Rattle.flash_runs.specs.Reading.{bytes_read, ChangesRead, HoldsRead}
 use Rattle.flash_runs.specs.Scratch.{PutsOver}
 use Rattle.flash_runs.specs.Watch.{closed}
-use Rattle.flash_runs.proofs.General.{Parts, Place, decide_next, settled, general}
+use Rattle.flash_runs.proofs.General.{Parts, Place, decide_next, general}
 use Rattle.flash_runs.proofs.Filling.{Fills, first-filling}
 use Rattle.flash_runs.proofs.Buffer.{changes-read, holds_read}
 use Rattle.flash_runs.proofs.Supplies.{LendsAs, Supplies, Known}

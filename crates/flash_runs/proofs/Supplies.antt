@@ -13,7 +13,7 @@ use Rattle.frames.specs.declared.frame.Outcome.{Outcome}
 use Rattle.spi_flash.specs.Loan.{Lent}
 use Rattle.spi_flash.specs.Machine.{Onward, Simulates, tree}
 use Rattle.spi_flash.specs.Path.{delays, actions, Bounded, Reaches, Ends}
-use Rattle.spi_flash.specs.Prog.{Prog, ret, fail, ask}
+use Rattle.spi_flash.specs.Prog.{Prog, ret, ask}
 use Rattle.spi_flash.specs.Run.{Moved}
 use Rattle.spi_flash.specs.Seen.{select_after}
 use Rattle.spi_flash.specs.declared.loan.Takes.{Takes}

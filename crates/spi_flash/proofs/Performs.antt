@@ -22,7 +22,7 @@ use Rattle.spi_flash.specs.declared.loan.Takes.{Takes}
 use Rattle.spi_flash.specs.Loan.{Lent, ready_of, ready_for}
 use Rattle.spi_flash.specs.Prog.{Prog, ask}
 use Rattle.spi_flash.specs.Run.{Event, reply, call, act, Entry, Moved, goes_on, fitting_then, Fitting, Answer}
-use Rattle.spi_flash.specs.Machine.{Decision, more, well, bad, Config, out, rest, lent_as, settle, moved, machine, tree, Onward, Simulates}
+use Rattle.spi_flash.specs.Machine.{Decision, more, well, bad, Config, out, lent_as, settle, moved, machine, tree, Onward, Simulates}
 use Rattle.spi_flash.specs.Seen.{Did, did, told_then, told, replies_of, unless_refused, Taken, SameData, Undisturbed}
 use Rattle.spi_flash.specs.OnBus.{BusProg, does, program_on_bus, performed}
 use Rattle.qspi.proofs.Cases.{by_cases}

@@ -1,17 +1,14 @@
 -- The code's table of known ids against the rows that it stands for.
-use Prim.Native.Nat.{ℕ, zero, suc, ◌+◌, ◌-◌, ◌≤◌, ◌<◌}
-use mathlib.Core.Path.{◌≡◌, refl, sym, ap, ◌∙◌}
+use Prim.Native.Nat.{ℕ, zero, suc, ◌+◌, ◌<◌}
+use mathlib.Core.Path.{◌≡◌, refl, sym, ◌∙◌}
 use mathlib.Core.Bool.{true, false}
 use mathlib.Core.List.{List, [], ◌∷◌}
-use mathlib.Core.Logic.{⊎_elim}
 use native.Mathlib.Omega.{arith}
 use lib.ListN.{drop, get_or}
-use borrow.Author.Rules.{rules}
 use Rattle.qspi.specs.Choice.{pick}
 use Rattle.spi_nor.specs.Config.{from_jedec, look_up, known_nor_devices, unknown_device, capacity_bytes_of, same_id, jedec_id}
 use Rattle.spi_nor.specs.declared.config.NorJedecId.{NorJedecId}
 use Rattle.spi_nor.specs.declared.config.NorDeviceInfo.{NorDeviceInfo}
-use Rattle.qspi.proofs.Tests.{tests}
 
 -- the code's table
 abbrev pub table : List (List ℕ)

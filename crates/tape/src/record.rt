@@ -86,6 +86,7 @@ fn spent(at: usize) -> Taken
 }
 
 // The record of a kind and a length that begins s, which stands at a position.
+#[tactic(auto, unfolding(crate::specs::Record::shaped_of))]
 fn shaped(s: &[u8], at: usize, kind: u8, len: usize) -> Taken
     requires { (header_length + len ≤ length s.now) × (at + length s.now < 2 ^ 64) }
     ensures { result ≡ shaped_of s.now at kind len }

@@ -1,6 +1,5 @@
 use Rattle.qspi.proofs.Tests.{tests}
 use Rattle.case_text.specs.Line.{error_of}
-use borrow.Author.Rules.{rules}
 use Rattle.case_text.proofs.line.bus_error.Goals as goal
 
 pub returns-in_default : goal.returns-in_default

@@ -1,5 +1,4 @@
 use Rattle.case_text.specs.Line.{comment_of}
-use borrow.Author.Rules.{rules}
 use Rattle.case_text.proofs.line.comment.Goals as goal
 
 pub returns-then-ascii : goal.returns-then-ascii

@@ -1,5 +1,4 @@
 use Rattle.case_text.specs.Line.{data_of}
-use borrow.Author.Rules.{rules}
 use Rattle.case_text.proofs.line.data.Goals as goal
 
 pub returns-then-is_hex : goal.returns-then-is_hex

@@ -1,5 +1,4 @@
 use Rattle.case_text.specs.Line.{four_of}
-use borrow.Author.Rules.{rules}
 use Rattle.case_text.proofs.line.four_numbers.Goals as goal
 
 pub returns-in_default : goal.returns-in_default

@@ -1,7 +1,4 @@
-use native.Mathlib.Omega.{arith}
-use lib.ListN.{length-take}
 use Rattle.case_text.specs.Line.{line_at}
-use borrow.Author.Rules.{rules}
 use Rattle.case_text.proofs.line.line_at.Goals as goal
 
 pub returns : goal.returns

@@ -1,5 +1,4 @@
 use Rattle.case_text.specs.Line.{named_of}
-use borrow.Author.Rules.{rules}
 use Rattle.case_text.proofs.line.named.Goals as goal
 
 pub returns-then-same : goal.returns-then-same

@@ -1,4 +1,3 @@
-use borrow.Author.Rules.{rules}
 use Rattle.case_text.proofs.Next.{next_past, next-within, next_last}
 use Rattle.case_text.proofs.line.next_line.Goals as goal
 

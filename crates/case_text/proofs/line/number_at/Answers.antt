@@ -1,6 +1,5 @@
 use native.Mathlib.Numerals.{add-one}
 use Rattle.case_text.specs.Line.{line_number}
-use borrow.Author.Rules.{rules}
 use Rattle.case_text.proofs.line.number_at.Goals as goal
 
 pub returns : goal.returns

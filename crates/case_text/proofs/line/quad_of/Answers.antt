@@ -1,6 +1,5 @@
 use Rattle.qspi.proofs.Tests.{tests}
 use Rattle.case_text.specs.Line.{quad_at}
-use borrow.Author.Rules.{rules}
 use Rattle.case_text.proofs.line.quad_of.Goals as goal
 
 pub returns-then-tclqv_ns-gt-WORD_MOST : goal.returns-then-tclqv_ns-gt-WORD_MOST

@@ -1,5 +1,4 @@
 use Rattle.case_text.specs.Line.{quad_of}
-use borrow.Author.Rules.{rules}
 use Rattle.case_text.proofs.line.quad_setting.Goals as goal
 
 pub returns-in-Nothing : goal.returns-in-Nothing

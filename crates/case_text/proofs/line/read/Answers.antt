@@ -1,6 +1,5 @@
 use Rattle.qspi.proofs.Tests.{tests}
 use Rattle.case_text.specs.Line.{read_of}
-use borrow.Author.Rules.{rules}
 use Rattle.case_text.proofs.line.read.Goals as goal
 
 pub returns-then-line-eq0 : goal.returns-then-line-eq0

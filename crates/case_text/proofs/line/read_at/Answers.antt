@@ -2,7 +2,6 @@ use Prim.Native.Nat.{◌<◌}
 use native.Mathlib.Omega.{arith}
 use Rattle.qspi.proofs.Tests.{tests}
 use Rattle.case_text.specs.Line.{read_at}
-use borrow.Author.Rules.{rules}
 use Rattle.case_text.proofs.line.read_at.Goals as goal
 
 pub returns-then-text-at : goal.returns-then-text-at

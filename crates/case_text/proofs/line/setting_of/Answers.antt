@@ -1,6 +1,5 @@
 use Rattle.qspi.proofs.Tests.{tests}
 use Rattle.case_text.specs.Line.{setting_of}
-use borrow.Author.Rules.{rules}
 use Rattle.case_text.proofs.line.setting_of.Goals as goal
 
 pub returns-then-same : goal.returns-then-same

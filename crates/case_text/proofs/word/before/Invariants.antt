@@ -1,10 +1,7 @@
 use Prim.Native.Nat.{◌+◌, ◌-◌, ◌≤◌}
 use mathlib.Core.Path.{◌≡◌}
-use native.Mathlib.Omega.{arith}
-use native.Mathlib.Numerals.{add-one}
 use lib.ListN.{length, drop}
 use Rattle.case_text.specs.Word.{before_of}
-use Rattle.case_text.proofs.Words.{before-end, before_here, before_on}
 use Rattle.case_text.proofs.word.before.Given as goal
 
 abbrev pub invariant-loop-i : goal.invariant-loop-i

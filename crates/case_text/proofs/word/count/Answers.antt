@@ -1,10 +1,5 @@
-use Prim.Native.Nat.{◌+◌, ◌-◌, ◌≤◌}
-use mathlib.Core.Path.{◌≡◌}
-use mathlib.Core.Logic.{⊎_elim}
 use native.Mathlib.Omega.{arith}
 use native.Mathlib.Numerals.{add-one}
-use lib.ListN.{length, drop}
-use Rattle.case_text.specs.Word.{count_of}
 use Rattle.case_text.proofs.Words.{count-end, count-here, count-on}
 use Rattle.case_text.proofs.word.count.Goals as goal
 use Rattle.case_text.proofs.word.count.Goals.{then-s-i, else-s-i}

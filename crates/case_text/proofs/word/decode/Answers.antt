@@ -1,5 +1,4 @@
-use mathlib.Core.Path.{refl, ◌∙◌}
-use borrow.Author.Rules.{rules}
+use mathlib.Core.Path.{◌∙◌}
 use Rattle.case_text.proofs.Numbers.{delivered, too_many}
 use Rattle.case_text.proofs.word.decode.Goals as goal
 

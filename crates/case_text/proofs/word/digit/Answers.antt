@@ -1,5 +1,3 @@
-use native.Mathlib.Omega.{arith}
-use borrow.Author.Rules.{rules}
 use borrow.Author.Tests.{lt-ltb, le-ltb, le-leb, lt-leb}
 use Rattle.case_text.specs.Number.{digit_of}
 use Rattle.case_text.proofs.word.digit.Goals as goal

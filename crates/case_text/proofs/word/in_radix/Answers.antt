@@ -1,10 +1,9 @@
-use Prim.Native.Nat.{suc, ◌+◌, ◌-◌, ◌*◌, ◌≤◌}
-use mathlib.Core.Path.{◌≡◌, refl, ◌∙◌}
+use Prim.Native.Nat.{suc, ◌+◌, ◌*◌}
+use mathlib.Core.Path.{◌∙◌}
 use native.Mathlib.Omega.{arith}
 use native.Mathlib.Numerals.{add-one}
-use lib.ListN.{length, drop, get_or}
-use borrow.Author.Rules.{rules}
-use Rattle.case_text.specs.Number.{digit_of, digits_in, value_from}
+use lib.ListN.{drop, get_or}
+use Rattle.case_text.specs.Number.{digit_of}
 use Rattle.case_text.proofs.Numbers.{digits-end, digits-bad, digits-on, value-end, value_on, value_grows, value-fits, value-past}
 use Rattle.case_text.proofs.Numbers.{none, no-digits, past, some}
 use Rattle.case_text.proofs.word.in_radix.Goals as goal

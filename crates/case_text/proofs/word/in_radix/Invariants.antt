@@ -1,12 +1,7 @@
-use Prim.Native.Nat.{suc, ◌+◌, ◌-◌, ◌*◌, ◌≤◌}
-use mathlib.Core.Path.{◌≡◌, refl, ◌∙◌}
-use native.Mathlib.Omega.{arith}
-use native.Mathlib.Numerals.{add-one}
-use lib.ListN.{length, drop, get_or}
-use borrow.Author.Rules.{rules}
-use Rattle.case_text.specs.Number.{digit_of, digits_in, value_from}
-use Rattle.case_text.proofs.Numbers.{digits-end, digits-bad, digits-on, value-end, value_on, value_grows, value-fits, value-past}
-use Rattle.case_text.proofs.Numbers.{none, no-digits, past, some}
+use Prim.Native.Nat.{◌-◌, ◌≤◌}
+use mathlib.Core.Path.{◌≡◌}
+use lib.ListN.{length, drop}
+use Rattle.case_text.specs.Number.{digits_in, value_from}
 use Rattle.case_text.proofs.word.in_radix.Given as goal
 
 abbrev pub invariant-loop-i : goal.invariant-loop-i

@@ -1,11 +1,6 @@
-use Prim.Native.Nat.{ℕ, ◌+◌, ◌-◌, ◌≤◌}
-use mathlib.Core.Path.{◌≡◌, refl, sym, ap, ◌∙◌}
-use mathlib.Core.Bool.{true, false}
-use native.Mathlib.Omega.{arith}
-use native.Mathlib.Numerals.{add-one}
-use borrow.Author.Rules.{rules}
-use Rattle.case_text.specs.Word.{same_of, word_of, index_from, index_of}
-use Rattle.case_text.proofs.Words.{index-end, index-here, index_on}
+use Prim.Native.Nat.{◌-◌, ◌≤◌}
+use mathlib.Core.Path.{◌≡◌}
+use Rattle.case_text.specs.Word.{index_from}
 use Rattle.case_text.proofs.word.index.Given as goal
 
 abbrev pub invariant-loop-k : goal.invariant-loop-k

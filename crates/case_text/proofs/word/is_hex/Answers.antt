@@ -1,9 +1,5 @@
-use Prim.Native.Nat.{◌-◌}
-use mathlib.Core.Path.{◌≡◌, refl, sym, ◌∙◌}
+use mathlib.Core.Path.{sym, ◌∙◌}
 use native.Mathlib.Omega.{arith}
-use lib.ListN.{length, drop}
-use borrow.Author.Rules.{rules}
-use Rattle.case_text.specs.Number.{is_hex_of}
 use Rattle.case_text.proofs.Numbers.{hex-end, hex-one, hex-bad, hex-bad-low, hex-on}
 use Rattle.case_text.proofs.word.is_hex.Goals as goal
 

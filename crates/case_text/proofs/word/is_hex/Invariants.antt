@@ -1,10 +1,7 @@
 use Prim.Native.Nat.{◌-◌}
-use mathlib.Core.Path.{◌≡◌, refl, sym, ◌∙◌}
-use native.Mathlib.Omega.{arith}
+use mathlib.Core.Path.{◌≡◌}
 use lib.ListN.{length, drop}
-use borrow.Author.Rules.{rules}
 use Rattle.case_text.specs.Number.{is_hex_of}
-use Rattle.case_text.proofs.Numbers.{hex-end, hex-one, hex-bad, hex-bad-low, hex-on}
 use Rattle.case_text.proofs.word.is_hex.Given as goal
 
 abbrev pub invariant-loop-i : goal.invariant-loop-i

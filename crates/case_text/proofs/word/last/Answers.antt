@@ -1,5 +1,4 @@
 use native.Mathlib.Omega.{arith}
-use borrow.Author.Rules.{rules}
 use Rattle.case_text.specs.Word.{words_of, last_of}
 use Rattle.case_text.proofs.word.last.Goals as goal
 

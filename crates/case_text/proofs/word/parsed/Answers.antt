@@ -1,4 +1,3 @@
-use borrow.Author.Rules.{rules}
 use borrow.Author.Tests.{lt-ltb, le-ltb, eq-eqb, ne_eqb}
 use Rattle.case_text.specs.Number.{number_of}
 use Rattle.case_text.proofs.word.parsed.Goals as goal

@@ -1,10 +1,9 @@
-use Prim.Native.Nat.{suc, ◌+◌, ◌-◌, ◌≤◌}
-use mathlib.Core.Path.{◌≡◌, refl, sym, ◌∙◌}
+use Prim.Native.Nat.{suc, ◌+◌, ◌-◌}
+use mathlib.Core.Path.{◌≡◌, sym, ◌∙◌}
 use native.Mathlib.Omega.{arith}
-use borrow.Author.Rules.{rules}
 use lib.ListN.{length, take, drop, length-drop}
-use lib.Seq.{take_all, length-take-le}
-use Rattle.case_text.specs.Word.{word_of, before_of}
+use lib.Seq.{take_all}
+use Rattle.case_text.specs.Word.{before_of}
 use Rattle.case_text.proofs.Words.{word_first, word_next, word-past}
 use Rattle.case_text.proofs.word.word.Goals as goal
 

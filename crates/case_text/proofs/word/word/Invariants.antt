@@ -1,11 +1,7 @@
-use Prim.Native.Nat.{suc, ◌+◌, ◌-◌, ◌≤◌}
-use mathlib.Core.Path.{◌≡◌, refl, sym, ◌∙◌}
-use native.Mathlib.Omega.{arith}
-use borrow.Author.Rules.{rules}
-use lib.ListN.{length, take, drop, length-drop}
-use lib.Seq.{take_all, length-take-le}
-use Rattle.case_text.specs.Word.{word_of, before_of}
-use Rattle.case_text.proofs.Words.{word_first, word_next, word-past}
+use Prim.Native.Nat.{◌-◌, ◌≤◌}
+use mathlib.Core.Path.{◌≡◌}
+use lib.ListN.{length}
+use Rattle.case_text.specs.Word.{word_of}
 use Rattle.case_text.proofs.word.word.Given as goal
 
 abbrev pub invariant-loop-i : goal.invariant-loop-i

@@ -1,4 +1,3 @@
-use borrow.Author.Rules.{rules}
 use native.Mathlib.Omega.{arith}
 use Rattle.case_text.specs.Word.{words_of}
 use Rattle.case_text.proofs.word.words.Goals as goal

@@ -1,10 +1,8 @@
-use Prim.Native.Nat.{◌-◌, ◌≤◌}
-use mathlib.Core.Path.{◌≡◌, refl, ap, ◌∙◌}
+use mathlib.Core.Path.{◌≡◌, ap, ◌∙◌}
 use native.Mathlib.Omega.{arith}
 use native.Mathlib.Numerals.{add-one}
 use lib.ListN.{length, length-set}
 use lib.Seq.{paste}
-use borrow.Author.Rules.{rules}
 use Rattle.case_text.specs.Number.{bytes_of}
 use Rattle.case_text.proofs.Numbers.{length-bytes, pair-written, pasted-pairs}
 use Rattle.case_text.proofs.word.write_pairs.Goals as goal

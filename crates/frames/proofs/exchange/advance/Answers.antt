@@ -1,5 +1,4 @@
 use Rattle.frames.specs.Frame.{advanced_of}
-use borrow.Author.Rules.{rules}
 use Rattle.frames.proofs.exchange.advance.Goals as goal
 
 pub returns-in-Done : goal.returns-in-Done

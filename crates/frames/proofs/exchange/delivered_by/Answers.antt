@@ -1,5 +1,4 @@
 use Rattle.frames.specs.Frame.{delivered_by}
-use borrow.Author.Rules.{rules}
 use Rattle.frames.proofs.exchange.delivered_by.Goals as goal
 
 pub returns-in-Done : goal.returns-in-Done

@@ -1,5 +1,4 @@
 use Rattle.frames.specs.Frame.{exchange_of}
-use borrow.Author.Rules.{rules}
 use Rattle.frames.proofs.exchange.exchange.Goals as goal
 
 pub returns-in-More : goal.returns-in-More

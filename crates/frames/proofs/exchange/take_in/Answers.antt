@@ -1,5 +1,4 @@
 use Rattle.frames.specs.Frame.{taken_in}
-use borrow.Author.Rules.{rules}
 use Rattle.frames.proofs.exchange.take_in.Goals as goal
 
 pub returns-in-Done : goal.returns-in-Done

@@ -1,7 +1,5 @@
-use mathlib.Core.Path.{refl}
 use Rattle.frames.specs.Frame.{given_scratch}
 use Rattle.frames.specs.Frame.{action_of}
-use borrow.Author.Rules.{rules}
 use Rattle.frames.proofs.frame.give.Goals as goal
 
 pub returns-in-Start-clause-value : goal.returns-in-Start-clause-value

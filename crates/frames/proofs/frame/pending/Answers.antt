@@ -1,5 +1,4 @@
 use Rattle.frames.specs.Frame.{action_of}
-use borrow.Author.Rules.{rules}
 use Rattle.frames.proofs.frame.pending.Goals as goal
 
 pub returns-in-Start : goal.returns-in-Start

@@ -1,5 +1,4 @@
 use Rattle.lines.specs.Line.{line_of}
-use borrow.Author.Rules.{rules}
 use Rattle.lines.proofs.line.action.Goals as goal
 
 pub returns-in-SelectLow : goal.returns-in-SelectLow

@@ -1,5 +1,4 @@
 use Rattle.lines.specs.Text.{appended}
-use borrow.Author.Rules.{rules}
 use Rattle.lines.proofs.line.colon.Goals as goal
 
 pub returns : goal.returns

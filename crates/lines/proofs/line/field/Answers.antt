@@ -1,6 +1,5 @@
 use Rattle.lines.specs.Text.{appended}
 use Rattle.lines.specs.Line.{field_of}
-use borrow.Author.Rules.{rules}
 use Rattle.lines.proofs.line.field.Goals as goal
 
 pub returns : goal.returns

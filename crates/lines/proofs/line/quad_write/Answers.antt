@@ -1,7 +1,6 @@
 use mathlib.Core.Path.{ap, sym, ◌∙◌}
 use Rattle.lines.specs.Text.{put_of, appended}
 use Rattle.lines.proofs.Appending.{quad-write-text}
-use borrow.Author.Rules.{rules}
 use Rattle.lines.proofs.line.quad_write.Goals as goal
 
 pub returns : goal.returns

@@ -1,6 +1,5 @@
 use Rattle.lines.specs.Text.{appended}
 use Rattle.lines.proofs.Appending.{appended-behind}
-use borrow.Author.Rules.{rules}
 use Rattle.lines.proofs.line.with_bytes.Goals as goal
 
 pub returns : goal.returns

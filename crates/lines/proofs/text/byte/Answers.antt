@@ -1,5 +1,4 @@
 use Rattle.lines.specs.Text.{appended, hex_byte}
-use borrow.Author.Rules.{rules}
 use Rattle.lines.proofs.text.byte.Goals as goal
 
 pub returns : goal.returns

@@ -1,11 +1,10 @@
-use Prim.Native.Nat.{◌+◌, ◌-◌, ◌%◌, ◌≤◌}
-use mathlib.Core.Path.{◌≡◌, refl, ap₂, ◌∙◌}
-use mathlib.Core.List.{◌++◌, append-nil}
+use Prim.Native.Nat.{◌+◌, ◌-◌, ◌%◌}
+use mathlib.Core.Path.{refl, ap₂, ◌∙◌}
+use mathlib.Core.List.{append-nil}
 use native.Mathlib.Omega.{arith}
-use lib.ListN.{length, drop, set, length-set, length-drop}
+use lib.ListN.{drop, set, length-set, length-drop}
 use lib.Seq.{take_all}
-use borrow.Author.Rules.{rules}
-use Rattle.lines.specs.Text.{text_of, appended, digits_of, decimal_of}
+use Rattle.lines.specs.Text.{text_of, appended, decimal_of}
 use Rattle.lines.proofs.Digits.{more-digits, first-digit, no_more}
 use Rattle.lines.proofs.text.decimal.Goals as goal
 

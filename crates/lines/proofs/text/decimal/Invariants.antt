@@ -1,12 +1,8 @@
-use Prim.Native.Nat.{◌+◌, ◌-◌, ◌%◌, ◌≤◌}
-use mathlib.Core.Path.{◌≡◌, refl, ap₂, ◌∙◌}
-use mathlib.Core.List.{◌++◌, append-nil}
-use native.Mathlib.Omega.{arith}
-use lib.ListN.{length, drop, set, length-set, length-drop}
-use lib.Seq.{take_all}
-use borrow.Author.Rules.{rules}
-use Rattle.lines.specs.Text.{text_of, appended, digits_of, decimal_of}
-use Rattle.lines.proofs.Digits.{more-digits, first-digit, no_more}
+use Prim.Native.Nat.{◌≤◌}
+use mathlib.Core.Path.{◌≡◌}
+use mathlib.Core.List.{◌++◌}
+use lib.ListN.{length, drop}
+use Rattle.lines.specs.Text.{digits_of, decimal_of}
 use Rattle.lines.proofs.text.decimal.Given as goal
 
 abbrev pub invariant-loop-i : goal.invariant-loop-i

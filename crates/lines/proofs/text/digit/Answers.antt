@@ -1,6 +1,5 @@
 use borrow.Author.Tests.{lt-ltb, le-ltb}
 use Rattle.lines.specs.Text.{digit_of}
-use borrow.Author.Rules.{rules}
 use Rattle.lines.proofs.text.digit.Goals as goal
 
 pub returns-then-d-lt10 : goal.returns-then-d-lt10

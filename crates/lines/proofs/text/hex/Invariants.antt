@@ -1,12 +1,7 @@
-use Prim.Native.Nat.{suc, ◌-◌}
-use mathlib.Core.Path.{◌≡◌, refl, sym, ◌∙◌}
-use native.Mathlib.Omega.{arith}
-use native.Mathlib.Numerals.{add-one}
-use lib.ListN.{length, drop, get_or, drop_of_length-le}
-use lib.Seq.{drop-cons}
-use borrow.Author.Rules.{rules}
-use Rattle.lines.specs.Text.{appended, text_of, hex_of, hex_byte}
-use Rattle.lines.proofs.Appending.{appended-behind}
+use Prim.Native.Nat.{◌-◌}
+use mathlib.Core.Path.{◌≡◌}
+use lib.ListN.{length, drop}
+use Rattle.lines.specs.Text.{appended, text_of, hex_of}
 use Rattle.lines.proofs.text.hex.Given as goal
 
 abbrev pub invariant-loop-i : goal.invariant-loop-i

@@ -1,6 +1,5 @@
 use borrow.Author.Tests.{lt-ltb, le-ltb}
 use Rattle.lines.specs.Text.{put_of}
-use borrow.Author.Rules.{rules}
 use Rattle.lines.proofs.text.put.Goals as goal
 
 pub returns-then-at-out : goal.returns-then-at-out

@@ -1,11 +1,8 @@
-use Prim.Native.Nat.{◌-◌}
-use mathlib.Core.Path.{◌≡◌, refl}
-use native.Mathlib.Omega.{arith}
 use native.Mathlib.Numerals.{add-one}
-use lib.ListN.{length, drop, drop_of_length-le}
+use lib.ListN.{drop_of_length-le}
 use lib.Seq.{drop-cons}
 use borrow.Author.Rules.{rules}
-use Rattle.lines.specs.Text.{appended, text_of}
+use Rattle.lines.specs.Text.{appended}
 use Rattle.lines.proofs.text.put_all.Goals as goal
 
 pub loop-i-preserved : goal.loop-i-preserved

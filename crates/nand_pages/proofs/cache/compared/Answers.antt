@@ -1,6 +1,5 @@
 use Rattle.qspi.proofs.Tests.{tests}
 use Rattle.nand_pages.specs.Cache.{compared_then}
-use borrow.Author.Rules.{rules}
 use Rattle.nand_pages.proofs.cache.compared.Goals as goal
 
 pub returns-then-same-eq0 : goal.returns-then-same-eq0

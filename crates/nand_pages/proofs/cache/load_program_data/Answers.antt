@@ -1,5 +1,4 @@
 use Rattle.nand_pages.specs.Cache.{load_program_then}
-use borrow.Author.Rules.{rules}
 use Rattle.nand_pages.proofs.cache.load_program_data.Goals as goal
 
 pub returns-then-in_cache : goal.returns-then-in_cache

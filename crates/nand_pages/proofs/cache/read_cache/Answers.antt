@@ -1,5 +1,4 @@
 use Rattle.nand_pages.specs.Cache.{read_cache_then}
-use borrow.Author.Rules.{rules}
 use Rattle.nand_pages.proofs.cache.read_cache.Goals as goal
 
 pub returns-then-in_cache : goal.returns-then-in_cache

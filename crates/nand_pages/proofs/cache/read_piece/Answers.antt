@@ -1,5 +1,4 @@
 use Rattle.nand_pages.specs.Cache.{piece_then}
-use borrow.Author.Rules.{rules}
 use Rattle.nand_pages.proofs.cache.read_piece.Goals as goal
 
 pub returns : goal.returns

@@ -1,5 +1,4 @@
 use Rattle.nand_pages.specs.Page.{accepted_then}
-use borrow.Author.Rules.{rules}
 use Rattle.nand_pages.proofs.page.accepted.Goals as goal
 
 pub returns-in-PageRead : goal.returns-in-PageRead

@@ -1,6 +1,5 @@
 use Rattle.qspi.proofs.Tests.{tests}
 use Rattle.nand_pages.specs.Page.{is_bad_then}
-use borrow.Author.Rules.{rules}
 use Rattle.nand_pages.proofs.page.is_bad_block.Goals as goal
 
 pub returns-then-block-geometry : goal.returns-then-block-geometry

@@ -1,5 +1,4 @@
 use Rattle.nand_pages.specs.Page.{judged_then}
-use borrow.Author.Rules.{rules}
 use Rattle.nand_pages.proofs.page.judged.Goals as goal
 
 pub returns-then-uncorrectable : goal.returns-then-uncorrectable

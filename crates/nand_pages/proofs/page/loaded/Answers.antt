@@ -1,5 +1,4 @@
 use Rattle.nand_pages.specs.Page.{loaded_then}
-use borrow.Author.Rules.{rules}
 use Rattle.nand_pages.proofs.page.loaded.Goals as goal
 
 pub returns-then-asks_verdict : goal.returns-then-asks_verdict

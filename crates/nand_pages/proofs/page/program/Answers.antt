@@ -1,6 +1,5 @@
 use Rattle.qspi.proofs.Tests.{tests}
 use Rattle.nand_pages.specs.Page.{program_then}
-use borrow.Author.Rules.{rules}
 use Rattle.nand_pages.proofs.page.program.Goals as goal
 
 pub returns-then-page-page_count : goal.returns-then-page-page_count

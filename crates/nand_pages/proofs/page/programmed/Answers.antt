@@ -1,5 +1,4 @@
 use Rattle.nand_pages.specs.Page.{programmed_then}
-use borrow.Author.Rules.{rules}
 use Rattle.nand_pages.proofs.page.programmed.Goals as goal
 
 pub returns-then-program_failed : goal.returns-then-program_failed

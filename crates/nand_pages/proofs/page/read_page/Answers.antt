@@ -1,6 +1,5 @@
 use Rattle.qspi.proofs.Tests.{tests}
 use Rattle.nand_pages.specs.Page.{read_page_then}
-use borrow.Author.Rules.{rules}
 use Rattle.nand_pages.proofs.page.read_page.Goals as goal
 
 pub returns-then-len-geometry : goal.returns-then-len-geometry

@@ -1,6 +1,5 @@
 use Rattle.qspi.proofs.Tests.{tests}
 use Rattle.nand_pages.specs.Page.{write_page_then}
-use borrow.Author.Rules.{rules}
 use Rattle.nand_pages.proofs.page.write_page.Goals as goal
 
 pub returns-then-page-page_count : goal.returns-then-page-page_count

@@ -1,5 +1,4 @@
 use Rattle.nand_phases.specs.Transfer.{cache_read_transfer}
-use Rattle.std.proofs.Common.{rules}
 use Rattle.nand_phases.proofs.transfer.cache_read_transfer.Goals as goal
 
 pub returns-in-Single : goal.returns-in-Single

@@ -1,6 +1,5 @@
 use Rattle.qspi.proofs.Tests.{tests}
 use Rattle.nand_phases.specs.Transfer.{chunk_of}
-use Rattle.std.proofs.Common.{rules}
 use Rattle.nand_phases.proofs.transfer.chunk.Goals as goal
 
 pub returns-then-len-done : goal.returns-then-len-done

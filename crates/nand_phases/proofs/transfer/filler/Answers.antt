@@ -1,6 +1,5 @@
 use Rattle.qspi.proofs.Tests.{tests}
 use Rattle.nand_phases.specs.Transfer.{filler_of}
-use Rattle.std.proofs.Common.{rules}
 use Rattle.nand_phases.proofs.transfer.filler.Goals as goal
 
 pub returns-then-rest-le-FILLER_CHUNK : goal.returns-then-rest-le-FILLER_CHUNK

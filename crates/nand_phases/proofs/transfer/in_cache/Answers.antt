@@ -1,6 +1,5 @@
 use Rattle.qspi.proofs.Tests.{tests}
 use Rattle.nand_phases.specs.Transfer.{in_cache}
-use Rattle.std.proofs.Common.{rules}
 use Rattle.nand_phases.proofs.transfer.in_cache.Goals as goal
 
 pub returns-then-column-room : goal.returns-then-column-room

@@ -1,6 +1,5 @@
 use Rattle.qspi.proofs.Tests.{tests}
 use Rattle.nand_phases.specs.Transfer.{in_range}
-use Rattle.std.proofs.Common.{rules}
 use Rattle.nand_phases.proofs.transfer.in_range.Goals as goal
 
 pub returns-then-offset-capacity : goal.returns-then-offset-capacity

@@ -1,5 +1,4 @@
 use Rattle.nand_phases.specs.Transfer.{place_of}
-use Rattle.std.proofs.Common.{rules}
 use Rattle.nand_phases.proofs.transfer.place.Goals as goal
 
 pub returns : goal.returns

@@ -1,5 +1,4 @@
 use Rattle.nand_phases.specs.Transfer.{task_operation}
-use Rattle.std.proofs.Common.{rules}
 use Rattle.nand_phases.proofs.transfer.task_operation.Goals as goal
 
 pub returns-in-Reset : goal.returns-in-Reset

@@ -1,5 +1,4 @@
 use Rattle.nand_steps.specs.Register.{check_configuration}
-use borrow.Author.Rules.{rules}
 use Rattle.nand_steps.proofs.register.check_configuration.Goals as goal
 
 pub returns-then-same : goal.returns-then-same

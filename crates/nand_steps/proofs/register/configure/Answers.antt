@@ -1,5 +1,4 @@
 use Rattle.nand_steps.specs.Register.{configure_then}
-use borrow.Author.Rules.{rules}
 use Rattle.nand_steps.proofs.register.configure.Goals as goal
 
 pub returns-then-same : goal.returns-then-same

@@ -1,5 +1,4 @@
 use Rattle.nand_steps.specs.Register.{configured_then}
-use borrow.Author.Rules.{rules}
 use Rattle.nand_steps.proofs.register.configured.Goals as goal
 
 pub returns-then-bring_up : goal.returns-then-bring_up

@@ -1,5 +1,4 @@
 use Rattle.nand_steps.specs.Register.{disable_quad}
-use borrow.Author.Rules.{rules}
 use Rattle.nand_steps.proofs.register.disable_quad.Goals as goal
 
 pub returns-then-quad_enabled : goal.returns-then-quad_enabled

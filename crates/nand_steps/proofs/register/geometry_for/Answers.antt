@@ -1,5 +1,4 @@
 use Rattle.nand_steps.specs.Register.{geometry_for}
-use borrow.Author.Rules.{rules}
 use Rattle.nand_steps.proofs.register.geometry_for.Goals as goal
 
 pub returns-in-Detect : goal.returns-in-Detect

@@ -1,6 +1,5 @@
 use Rattle.qspi.proofs.Tests.{tests}
 use Rattle.nand_steps.specs.Register.{identified_then}
-use borrow.Author.Rules.{rules}
 use Rattle.nand_steps.proofs.register.identified.Goals as goal
 
 pub returns-then-geometry-le-MAX_VERIFY_PAGE_SIZE : goal.returns-then-geometry-le-MAX_VERIFY_PAGE_SIZE

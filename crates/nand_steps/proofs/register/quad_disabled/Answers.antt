@@ -1,5 +1,4 @@
 use Rattle.nand_steps.specs.Register.{quad_disabled}
-use borrow.Author.Rules.{rules}
 use Rattle.nand_steps.proofs.register.quad_disabled.Goals as goal
 
 pub returns-then-quad_enabled : goal.returns-then-quad_enabled

@@ -1,5 +1,4 @@
 use Rattle.nand_steps.specs.Register.{unprotect_then}
-use borrow.Author.Rules.{rules}
 use Rattle.nand_steps.proofs.register.unprotect.Goals as goal
 
 pub returns-then-is_unlocked : goal.returns-then-is_unlocked

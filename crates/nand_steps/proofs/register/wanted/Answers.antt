@@ -3,7 +3,6 @@ use mathlib.Core.Path.{◌∙◌, ap}
 use Rattle.spi_nand.specs.Status.{with_bits}
 use Rattle.spi_nand.specs.declared.status.Configuration.{Configuration}
 use Rattle.nand_steps.specs.Register.{wanted_for}
-use borrow.Author.Rules.{rules}
 use Rattle.nand_steps.proofs.register.wanted.Goals as goal
 
 pub returns-in-Single : goal.returns-in-Single

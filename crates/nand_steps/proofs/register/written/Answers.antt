@@ -1,5 +1,4 @@
 use Rattle.nand_steps.specs.Register.{written_then}
-use borrow.Author.Rules.{rules}
 use Rattle.nand_steps.proofs.register.written.Goals as goal
 
 pub returns-in-Call : goal.returns-in-Call

@@ -1,6 +1,5 @@
 use Rattle.qspi.proofs.Tests.{tests}
 use Rattle.nor_pages.specs.Erase.{erase_from}
-use borrow.Author.Rules.{rules}
 use Rattle.nor_pages.proofs.erase.erase_from.Goals as goal
 
 pub returns-then-address-end_at : goal.returns-then-address-end_at

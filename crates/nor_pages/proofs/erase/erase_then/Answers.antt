@@ -1,6 +1,5 @@
 use Rattle.qspi.proofs.Tests.{tests}
 use Rattle.nor_pages.specs.Erase.{erase_then}
-use borrow.Author.Rules.{rules}
 use Rattle.nor_pages.proofs.erase.erase_then.Goals as goal
 
 pub returns-then-from-to : goal.returns-then-from-to

@@ -1,5 +1,4 @@
 use Rattle.nor_pages.specs.Erase.{erase_unit}
-use borrow.Author.Rules.{rules}
 use Rattle.nor_pages.proofs.erase.erase_unit.Goals as goal
 
 pub returns-then-multiple_of : goal.returns-then-multiple_of

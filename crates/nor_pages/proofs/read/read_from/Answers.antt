@@ -1,6 +1,5 @@
 use Rattle.qspi.proofs.Tests.{tests}
 use Rattle.nor_pages.specs.Read.{read_from}
-use borrow.Author.Rules.{rules}
 use Rattle.nor_pages.proofs.read.read_from.Goals as goal
 
 pub returns-then-done-len : goal.returns-then-done-len

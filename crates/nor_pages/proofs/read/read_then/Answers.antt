@@ -1,5 +1,4 @@
 use Rattle.nor_pages.specs.Read.{read_then}
-use borrow.Author.Rules.{rules}
 use Rattle.nor_pages.proofs.read.read_then.Goals as goal
 
 pub returns-then-in_range : goal.returns-then-in_range

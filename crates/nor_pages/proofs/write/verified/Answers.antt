@@ -1,6 +1,5 @@
 use Rattle.qspi.proofs.Tests.{tests}
 use Rattle.nor_pages.specs.Write.{verified_then}
-use borrow.Author.Rules.{rules}
 use Rattle.nor_pages.proofs.write.verified.Goals as goal
 
 pub returns-then-same-eq0 : goal.returns-then-same-eq0

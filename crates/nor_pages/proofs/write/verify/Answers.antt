@@ -1,5 +1,4 @@
 use Rattle.nor_pages.specs.Write.{verify_then}
-use borrow.Author.Rules.{rules}
 use Rattle.nor_pages.proofs.write.verify.Goals as goal
 
 pub returns-then-in_range : goal.returns-then-in_range

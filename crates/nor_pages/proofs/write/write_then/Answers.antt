@@ -1,5 +1,4 @@
 use Rattle.nor_pages.specs.Write.{write_then}
-use borrow.Author.Rules.{rules}
 use Rattle.nor_pages.proofs.write.write_then.Goals as goal
 
 pub returns-then-multiple_of-2 : goal.returns-then-multiple_of-2

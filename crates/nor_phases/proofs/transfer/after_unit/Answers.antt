@@ -1,4 +1,4 @@
-use Rattle.std.proofs.Common.{◌∙◌, rules}
+use Rattle.std.proofs.Common.{◌∙◌}
 use Rattle.nor_phases.specs.Transfer.{after_unit}
 use Rattle.nor_phases.proofs.transfer.after_unit.Goals as goal
 

@@ -1,6 +1,5 @@
 use Rattle.qspi.proofs.Tests.{tests}
 use Rattle.nor_phases.specs.Transfer.{chunk_of}
-use Rattle.std.proofs.Common.{rules}
 use Rattle.nor_phases.proofs.transfer.chunk.Goals as goal
 
 pub returns-then-len-done-le-MAX_BULK_LEN : goal.returns-then-len-done-le-MAX_BULK_LEN

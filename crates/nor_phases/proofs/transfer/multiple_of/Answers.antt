@@ -1,5 +1,5 @@
 use native.Mathlib.Nat.{mod-zero}
-use Rattle.std.proofs.Common.{refl, rules}
+use Rattle.std.proofs.Common.{refl}
 use Rattle.nor_phases.specs.Transfer.{multiple_of}
 use Rattle.nor_phases.proofs.transfer.multiple_of.Goals as goal
 

@@ -1,6 +1,5 @@
 use Rattle.qspi.proofs.Tests.{tests}
 use Rattle.nor_phases.specs.Transfer.{page_of}
-use Rattle.std.proofs.Common.{rules}
 use Rattle.nor_phases.proofs.transfer.page_chunk.Goals as goal
 
 pub returns-then-len-done : goal.returns-then-len-done

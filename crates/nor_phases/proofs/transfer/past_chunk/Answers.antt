@@ -1,6 +1,5 @@
 use Rattle.std.proofs.Common.{arith, rules}
 use Rattle.nor_phases.proofs.Pieces.{chunk-within}
-use Rattle.nor_phases.specs.Transfer.{chunk_of}
 use Rattle.nor_phases.proofs.transfer.past_chunk.Goals as goal
 
 pub overflow_add-result : goal.overflow_add-result

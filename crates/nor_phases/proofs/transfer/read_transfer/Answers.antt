@@ -1,5 +1,4 @@
 use Rattle.nor_phases.specs.Transfer.{read_transfer}
-use Rattle.std.proofs.Common.{rules}
 use Rattle.nor_phases.proofs.transfer.read_transfer.Goals as goal
 
 pub returns-in-Single : goal.returns-in-Single

@@ -1,6 +1,5 @@
 use Rattle.qspi.proofs.Tests.{tests}
 use Rattle.nor_phases.specs.Transfer.{step_kind}
-use Rattle.std.proofs.Common.{rules}
 use Rattle.nor_phases.proofs.transfer.step_kind.Goals as goal
 
 pub returns-then-block-end : goal.returns-then-block-end

@@ -1,5 +1,4 @@
 use Rattle.nor_phases.specs.Transfer.{task_operation}
-use Rattle.std.proofs.Common.{rules}
 use Rattle.nor_phases.proofs.transfer.task_operation.Goals as goal
 
 pub returns-in-EnableQuad2 : goal.returns-in-EnableQuad2

@@ -1,5 +1,4 @@
 use Rattle.nor_phases.specs.Transfer.{task_transfer}
-use Rattle.std.proofs.Common.{rules}
 use Rattle.nor_phases.proofs.transfer.task_transfer.Goals as goal
 
 pub returns-in-EnableQuad2 : goal.returns-in-EnableQuad2

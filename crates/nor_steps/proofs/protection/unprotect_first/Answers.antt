@@ -1,6 +1,5 @@
 use Rattle.qspi.proofs.Tests.{tests}
 use Rattle.nor_steps.specs.Protection.{unprotect_first}
-use borrow.Author.Rules.{rules}
 use Rattle.nor_steps.proofs.protection.unprotect_first.Goals as goal
 
 pub returns-then-unprotected1-before : goal.returns-then-unprotected1-before

@@ -1,6 +1,5 @@
 use Rattle.qspi.proofs.Tests.{tests}
 use Rattle.nor_steps.specs.Protection.{unprotect_second}
-use borrow.Author.Rules.{rules}
 use Rattle.nor_steps.proofs.protection.unprotect_second.Goals as goal
 
 pub returns-then-unprotected2-status2 : goal.returns-then-unprotected2-status2

@@ -1,5 +1,4 @@
 use Rattle.nor_steps.specs.Register.{device_for}
-use borrow.Author.Rules.{rules}
 use Rattle.nor_steps.proofs.register.device_for.Goals as goal
 
 pub returns-in-Detect : goal.returns-in-Detect

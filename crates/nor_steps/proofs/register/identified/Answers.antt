@@ -1,6 +1,5 @@
 use Rattle.qspi.proofs.Tests.{tests}
 use Rattle.nor_steps.specs.Register.{identified_then}
-use borrow.Author.Rules.{rules}
 use Rattle.nor_steps.proofs.register.identified.Goals as goal
 
 pub returns-in-Single : goal.returns-in-Single

@@ -1,5 +1,4 @@
 use Rattle.qspi.specs.Bus.{fits_of}
-use borrow.Author.Rules.{rules}
 use Rattle.qspi.proofs.bus.fits.Goals as goal
 
 pub returns-in-Done-reply : goal.returns-in-Done-reply

@@ -1,11 +1,6 @@
-use Prim.Native.Nat.{ℕ, ◌-◌}
-use mathlib.Core.Path.{◌≡◌, refl}
-use native.Mathlib.Omega.{arith}
-use native.Mathlib.Numerals.{add-one}
-use lib.ListN.{length, drop, drop_of_length-le}
+use Prim.Native.Nat.{ℕ}
+use lib.ListN.{drop_of_length-le}
 use lib.Seq.{drop-cons}
-use borrow.Author.Tests.{eq-eqb, ne_eqb}
-use Rattle.qspi.specs.Bytes.{begins_of}
 use Rattle.qspi.proofs.bytes.begins.Goals as goal
 
 pub returns-then-d-i : goal.returns-then-d-i

@@ -1,9 +1,7 @@
-use Prim.Native.Nat.{◌-◌, ◌≤◌}
-use mathlib.Core.Path.{◌≡◌, refl, ap, ◌∙◌}
 use native.Mathlib.Omega.{arith}
 use native.Mathlib.Numerals.{add-one}
-use lib.ListN.{length, length-set}
-use lib.Seq.{paste, paste-zero, paste-suc}
+use lib.ListN.{length-set}
+use lib.Seq.{paste-suc}
 use Rattle.qspi.proofs.bytes.copy.Goals as goal
 
 pub loop-i-preserved : goal.loop-i-preserved

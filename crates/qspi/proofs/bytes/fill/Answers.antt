@@ -1,10 +1,10 @@
-use Prim.Native.Nat.{ℕ, ◌+◌, ◌-◌, ◌≤◌}
+use Prim.Native.Nat.{ℕ, ◌+◌}
 use mathlib.Core.List.{List}
-use mathlib.Core.Path.{◌≡◌, refl, ap, sym, ◌∙◌}
+use mathlib.Core.Path.{ap, sym, ◌∙◌}
 use native.Mathlib.Omega.{arith}
 use native.Mathlib.Numerals.{add-one}
-use lib.ListN.{length, set, length-set, length-replicate, get_or-replicate, replicate}
-use lib.Seq.{paste, paste-zero, paste-suc}
+use lib.ListN.{set, length-set, length-replicate, get_or-replicate, replicate}
+use lib.Seq.{paste, paste-suc}
 use Rattle.qspi.proofs.bytes.fill.Goals as goal
 
 pub loop-i-preserved : goal.loop-i-preserved

@@ -1,10 +1,7 @@
-use Prim.Native.Nat.{ℕ, ◌+◌, ◌-◌, ◌≤◌}
-use mathlib.Core.List.{List}
-use mathlib.Core.Path.{◌≡◌, refl, ap, sym, ◌∙◌}
-use native.Mathlib.Omega.{arith}
-use native.Mathlib.Numerals.{add-one}
-use lib.ListN.{length, set, length-set, length-replicate, get_or-replicate, replicate}
-use lib.Seq.{paste, paste-zero, paste-suc}
+use Prim.Native.Nat.{◌-◌, ◌≤◌}
+use mathlib.Core.Path.{◌≡◌}
+use lib.ListN.{length, replicate}
+use lib.Seq.{paste}
 use Rattle.qspi.proofs.bytes.fill.Given as goal
 
 abbrev pub invariant-loop-i : goal.invariant-loop-i

@@ -1,8 +1,5 @@
-use native.Mathlib.Omega.{arith}
-use Rattle.qspi.proofs.Filler.{filler-most}
 use Rattle.qspi.proofs.Tests.{tests}
 use Rattle.qspi.specs.Bytes.{with_filler}
-use borrow.Author.Rules.{rules}
 use Rattle.qspi.proofs.bytes.put_filler.Goals as goal
 
 pub returns-then-scratch-ge-SCRATCH_LEN : goal.returns-then-scratch-ge-SCRATCH_LEN

@@ -1,6 +1,5 @@
 use Rattle.qspi.proofs.Tests.{tests}
 use Rattle.qspi.specs.Bytes.{with_marker}
-use borrow.Author.Rules.{rules}
 use Rattle.qspi.proofs.bytes.put_marker.Goals as goal
 
 pub returns-then-scratch-ge-SCRATCH_LEN : goal.returns-then-scratch-ge-SCRATCH_LEN

@@ -1,8 +1,5 @@
-use native.Mathlib.Omega.{arith}
-use lib.ListN.{length-set}
 use Rattle.qspi.proofs.Tests.{tests}
 use Rattle.qspi.specs.Command.{with_command}
-use borrow.Author.Rules.{rules}
 use Rattle.qspi.proofs.command.put_command.Goals as goal
 
 pub returns-then-scratch-lt-SCRATCH_LEN : goal.returns-then-scratch-lt-SCRATCH_LEN

@@ -1,5 +1,4 @@
 use Rattle.spi_flash.specs.Loan.{exchange_for}
-use borrow.Author.Rules.{rules}
 use Rattle.spi_flash.proofs.loan.exchange.Goals as goal
 
 pub returns-then-ready : goal.returns-then-ready

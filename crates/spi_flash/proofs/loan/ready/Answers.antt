@@ -1,6 +1,5 @@
 use Rattle.qspi.proofs.Tests.{tests}
 use Rattle.spi_flash.specs.Loan.{ready_of}
-use borrow.Author.Rules.{rules}
 use Rattle.spi_flash.proofs.loan.ready.Goals as goal
 
 pub returns-then-scratch_len-lt-SCRATCH_LEN : goal.returns-then-scratch_len-lt-SCRATCH_LEN

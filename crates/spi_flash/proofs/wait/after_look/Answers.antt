@@ -1,6 +1,5 @@
 use Rattle.qspi.proofs.Tests.{tests}
 use Rattle.spi_flash.specs.Wait.{next_wait}
-use borrow.Author.Rules.{rules}
 use Rattle.spi_flash.proofs.wait.after_look.Goals as goal
 
 pub returns-then-timings-waited : goal.returns-then-timings-waited

@@ -1,5 +1,4 @@
 use mathlib.Core.Path.{ap}
-use borrow.Author.Rules.{rules}
 use Rattle.spi_nand.specs.Opcode.{row_at, timings_of}
 use Rattle.spi_nand.proofs.opcode.timings.Goals as goal
 

@@ -1,4 +1,3 @@
-use borrow.Author.Rules.{rules}
 use Rattle.spi_nor.specs.Opcode.{timings_of}
 use Rattle.spi_nor.proofs.opcode.timings.Goals as goal
 

@@ -1,9 +1,7 @@
-use Prim.Native.Nat.{◌-◌, ◌<◌}
-use mathlib.Core.Path.{◌≡◌, refl, sym, ◌∙◌}
+use Prim.Native.Nat.{◌<◌}
+use mathlib.Core.Path.{sym, ◌∙◌}
 use native.Mathlib.Omega.{arith}
-use borrow.Author.Rules.{rules}
-use Rattle.tape.specs.Record.{trailer_at, taken_at}
-use Rattle.tape.specs.Judge.{end_from}
+use Rattle.tape.specs.Record.{taken_at}
 use Rattle.tape.proofs.Walk.{end_step, end-here, next-within}
 use Rattle.tape.proofs.judge.end_from.Goals as goal
 

@@ -1,10 +1,7 @@
-use Prim.Native.Nat.{◌-◌, ◌<◌}
-use mathlib.Core.Path.{◌≡◌, refl, sym, ◌∙◌}
-use native.Mathlib.Omega.{arith}
-use borrow.Author.Rules.{rules}
+use Prim.Native.Nat.{◌-◌}
+use mathlib.Core.Path.{◌≡◌}
 use Rattle.tape.specs.Record.{trailer_at, taken_at}
 use Rattle.tape.specs.Judge.{end_from}
-use Rattle.tape.proofs.Walk.{end_step, end-here, next-within}
 use Rattle.tape.proofs.judge.end_from.Given as goal
 
 abbrev pub invariant-loop-at : goal.invariant-loop-at

@@ -1,5 +1,4 @@
 use Rattle.tape.specs.Judge.{first_of}
-use borrow.Author.Rules.{rules}
 use Rattle.tape.proofs.judge.first.Goals as goal
 
 pub returns-then-well_formed : goal.returns-then-well_formed

@@ -1,6 +1,5 @@
 use Rattle.qspi.proofs.Tests.{tests}
 use Rattle.tape.specs.Judge.{accepted_of}
-use borrow.Author.Rules.{rules}
 use Rattle.tape.proofs.judge.well_formed.Goals as goal
 
 pub returns-then-n-lt-TRAILER_LEN : goal.returns-then-n-lt-TRAILER_LEN

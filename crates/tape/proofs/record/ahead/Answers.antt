@@ -1,6 +1,5 @@
 use mathlib.Core.Path.{sym}
 use native.Mathlib.Omega.{arith}
-use borrow.Author.Rules.{rules}
 use Rattle.tape.specs.Record.{trailer_at, ahead_of}
 use Rattle.tape.proofs.Parts.{part_slice, none_ahead}
 use Rattle.tape.proofs.record.ahead.Goals as goal

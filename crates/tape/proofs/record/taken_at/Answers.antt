@@ -4,7 +4,6 @@ use lib.ListN.{length}
 use Rattle.tape.specs.Record.{taken_in}
 use Rattle.tape.proofs.Parts.{room}
 use Rattle.qspi.proofs.Tests.{tests}
-use borrow.Author.Rules.{rules}
 use Rattle.tape.proofs.record.taken_at.Goals as goal
 
 pub returns-then-n-lt-HEADER_LEN : goal.returns-then-n-lt-HEADER_LEN

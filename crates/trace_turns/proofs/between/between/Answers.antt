@@ -1,5 +1,4 @@
 use Rattle.trace_turns.specs.Between.{between_at}
-use borrow.Author.Rules.{rules}
 use Rattle.trace_turns.proofs.between.between.Goals as goal
 
 pub returns-in-End : goal.returns-in-End

@@ -1,5 +1,4 @@
 use Rattle.trace_turns.specs.Between.{left_over}
-use borrow.Author.Rules.{rules}
 use Rattle.trace_turns.proofs.between.left_over.Goals as goal
 
 pub returns-then-place : goal.returns-then-place

@@ -1,6 +1,5 @@
 use Rattle.trace_turns.proofs.Others.{not-over}
 use Rattle.trace_turns.specs.Place.{over_of}
-use borrow.Author.Rules.{rules}
 use Rattle.trace_turns.proofs.place.over.Goals as goal
 
 pub returns-in-Over : goal.returns-in-Over

@@ -1,5 +1,4 @@
 use Rattle.trace_turns.specs.Show.{bad_of}
-use borrow.Author.Rules.{rules}
 use Rattle.trace_turns.proofs.show.bad.Goals as goal
 
 pub returns : goal.returns

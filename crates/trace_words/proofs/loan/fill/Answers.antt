@@ -1,11 +1,11 @@
-use Prim.Native.Nat.{ℕ, ◌-◌, ◌≤◌}
+use Prim.Native.Nat.{ℕ}
 use mathlib.Core.List.{List}
-use mathlib.Core.Path.{◌≡◌, refl, ap, sym, ◌∙◌}
+use mathlib.Core.Path.{◌≡◌, ap, sym, ◌∙◌}
 use native.Mathlib.Omega.{arith}
 use native.Mathlib.Numerals.{add-one}
 use native.Mathlib.Nat.{zero-add}
-use lib.ListN.{length, get_or, set, length-set, length-replicate, get_or-replicate, replicate}
-use lib.Seq.{paste, paste-zero, paste-suc}
+use lib.ListN.{get_or, set, length-set, length-replicate, get_or-replicate, replicate}
+use lib.Seq.{paste, paste-suc}
 use Rattle.trace_words.proofs.Filled.{too_short, filled-whole}
 use Rattle.trace_words.proofs.loan.fill.Goals as goal
 

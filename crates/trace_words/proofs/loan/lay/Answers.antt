@@ -1,6 +1,5 @@
 use Rattle.trace_words.specs.Request.{digits_after}
 use Rattle.trace_words.specs.Loan.{laid_of}
-use borrow.Author.Rules.{rules}
 use Rattle.trace_words.proofs.loan.lay.Goals as goal
 
 pub returns-in-Nothing : goal.returns-in-Nothing

@@ -1,7 +1,6 @@
 use Rattle.lines.proofs.Appending.{appended-behind}
 use Rattle.trace_words.specs.Print.{bad_line}
 use Rattle.lines.specs.Text.{appended}
-use borrow.Author.Rules.{rules}
 use Rattle.trace_words.proofs.print.bad.Goals as goal
 
 pub returns : goal.returns

@@ -1,5 +1,4 @@
 use Rattle.lines.specs.Text.{appended}
-use borrow.Author.Rules.{rules}
 use Rattle.trace_words.proofs.print.count.Goals as goal
 
 pub returns-in-Nothing : goal.returns-in-Nothing

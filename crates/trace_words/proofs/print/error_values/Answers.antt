@@ -2,7 +2,6 @@ use Rattle.lines.proofs.Appending.{appended-behind}
 use Rattle.trace_words.proofs.Values.{none-but-a-code}
 use Rattle.trace_words.specs.Print.{fields_of, values_line}
 use Rattle.lines.specs.Text.{appended}
-use borrow.Author.Rules.{rules}
 use Rattle.trace_words.proofs.print.error_values.Goals as goal
 
 pub returns-in_default : goal.returns-in_default

@@ -1,7 +1,6 @@
 use Rattle.qspi.proofs.Tests.{tests}
 use Rattle.trace_words.specs.Print.{head_of}
 use Rattle.lines.specs.Text.{appended}
-use borrow.Author.Rules.{rules}
 use Rattle.trace_words.proofs.print.head.Goals as goal
 
 pub returns-then-from-ne0 : goal.returns-then-from-ne0

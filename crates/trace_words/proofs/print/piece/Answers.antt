@@ -1,4 +1,3 @@
-use borrow.Author.Rules.{rules}
 use Rattle.trace_words.proofs.Pieces.{piece-goes-on, piece-ends}
 use Rattle.trace_words.proofs.print.piece.Goals as goal
 

@@ -1,12 +1,8 @@
 use Prim.Native.Nat.{◌-◌}
-use mathlib.Core.Path.{◌≡◌, refl, ◌∙◌}
-use native.Mathlib.Omega.{arith}
-use native.Mathlib.Numerals.{add-one}
-use lib.ListN.{length, drop, drop_of_length-le}
-use borrow.Author.Rules.{rules}
+use mathlib.Core.Path.{◌≡◌}
+use lib.ListN.{length, drop}
 use Rattle.lines.specs.Text.{appended, text_of}
 use Rattle.trace_words.specs.Print.{solid_of}
-use Rattle.trace_words.proofs.Pieces.{next-solid}
 use Rattle.trace_words.proofs.print.solid.Given as goal
 
 abbrev pub invariant-loop-i : goal.invariant-loop-i

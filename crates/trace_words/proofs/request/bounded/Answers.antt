@@ -1,6 +1,5 @@
 use Rattle.qspi.proofs.Tests.{tests}
 use Rattle.trace_words.specs.Request.{number_up_to}
-use borrow.Author.Rules.{rules}
 use Rattle.trace_words.proofs.request.bounded.Goals as goal
 
 pub returns-in_default : goal.returns-in_default

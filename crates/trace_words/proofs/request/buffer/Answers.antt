@@ -1,5 +1,4 @@
 use Rattle.trace_words.specs.Request.{buffer_loan}
-use borrow.Author.Rules.{rules}
 use Rattle.trace_words.proofs.request.buffer.Goals as goal
 
 pub returns-in_default : goal.returns-in_default

@@ -1,7 +1,5 @@
-use borrow.Author.Tests.{not-true, not-false}
 use Rattle.qspi.proofs.Tests.{tests}
 use Rattle.trace_words.specs.Request.{data_loan, data_fits, digits_after}
-use borrow.Author.Rules.{rules}
 use Rattle.trace_words.proofs.request.data.Goals as goal
 
 pub returns-then-lent-eq0 : goal.returns-then-lent-eq0

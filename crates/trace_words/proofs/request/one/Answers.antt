@@ -1,6 +1,5 @@
 use Rattle.qspi.proofs.Tests.{tests}
 use Rattle.trace_words.specs.Request.{one_number}
-use borrow.Author.Rules.{rules}
 use Rattle.trace_words.proofs.request.one.Goals as goal
 
 pub returns-then-words-ne-WORDS_ONE : goal.returns-then-words-ne-WORDS_ONE

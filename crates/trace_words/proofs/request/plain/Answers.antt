@@ -1,6 +1,5 @@
 use Rattle.qspi.proofs.Tests.{tests}
 use Rattle.trace_words.specs.Request.{plain_of}
-use borrow.Author.Rules.{rules}
 use Rattle.trace_words.proofs.request.plain.Goals as goal
 
 pub returns-then-words-ne-WORDS_PLAIN : goal.returns-then-words-ne-WORDS_PLAIN

@@ -1,5 +1,4 @@
 use Rattle.trace_words.specs.Request.{said_of}
-use borrow.Author.Rules.{rules}
 use Rattle.trace_words.proofs.request.said.Goals as goal
 
 pub returns-in-Plain : goal.returns-in-Plain

@@ -1,6 +1,5 @@
 use Rattle.qspi.proofs.Tests.{tests}
 use Rattle.trace_words.specs.Request.{two_numbers}
-use borrow.Author.Rules.{rules}
 use Rattle.trace_words.proofs.request.two.Goals as goal
 
 pub returns-then-words-ne-WORDS_TWO : goal.returns-then-words-ne-WORDS_TWO

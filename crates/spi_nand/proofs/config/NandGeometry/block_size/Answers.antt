@@ -1,5 +1,4 @@
 use Rattle.spi_nand.specs.Config.{block_size_of}
-use borrow.Author.Rules.{rules}
 use Rattle.spi_nand.proofs.config.NandGeometry.block_size.Goals as goal
 
 pub returns : goal.returns

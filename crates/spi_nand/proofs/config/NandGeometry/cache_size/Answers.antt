@@ -1,5 +1,4 @@
 use native.Mathlib.Omega.{arith}
-use borrow.Author.Rules.{rules}
 use Rattle.spi_nand.specs.Config.{cache_size_of}
 use Rattle.spi_nand.proofs.config.NandGeometry.cache_size.Goals as goal
 

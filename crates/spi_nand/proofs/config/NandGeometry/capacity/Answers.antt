@@ -2,7 +2,6 @@ use Prim.Native.Nat.{ℕ, ◌*◌}
 use mathlib.Core.Path.{ap, ◌∙◌}
 use Rattle.spi_nand.specs.Config.{saturating, block_size_of, capacity_of}
 use Rattle.spi_nand.proofs.Saturating.{twice}
-use borrow.Author.Rules.{rules}
 use Rattle.spi_nand.proofs.config.NandGeometry.capacity.Goals as goal
 
 pub returns : goal.returns

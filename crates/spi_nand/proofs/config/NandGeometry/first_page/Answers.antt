@@ -1,5 +1,4 @@
 use Rattle.spi_nand.specs.Config.{first_page_of}
-use borrow.Author.Rules.{rules}
 use Rattle.spi_nand.proofs.config.NandGeometry.first_page.Goals as goal
 
 pub returns : goal.returns

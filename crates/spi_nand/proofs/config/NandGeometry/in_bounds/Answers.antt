@@ -2,7 +2,6 @@ use Prim.Native.Nat.{◌+◌, ◌*◌, ◌≤◌, ◌<◌}
 use mathlib.Core.Path.{◌∙◌}
 use native.Mathlib.Omega.{arith}
 use lib.Dec.{lit<}
-use borrow.Author.Rules.{rules}
 use Rattle.qspi.proofs.Tests.{tests}
 use Rattle.spi_nand.specs.Config.{page_count_of, in_bounds}
 use Rattle.spi_nand.proofs.Saturating.{below}

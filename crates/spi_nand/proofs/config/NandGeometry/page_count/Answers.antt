@@ -1,5 +1,4 @@
 use Rattle.spi_nand.specs.Config.{page_count_of}
-use borrow.Author.Rules.{rules}
 use Rattle.spi_nand.proofs.config.NandGeometry.page_count.Goals as goal
 
 pub returns : goal.returns

@@ -1,5 +1,4 @@
 use Rattle.spi_nand.specs.Status.{is_unlocked}
-use borrow.Author.Rules.{rules}
 use Rattle.spi_nand.proofs.status.Protection.is_unlocked.Goals as goal
 
 pub returns : goal.returns

@@ -14,7 +14,6 @@ pub returns-in-2 : goal.returns-in-2
 unfolding verdict_of
 returns-in-2 c = simp c.in-2.is
 
-
 pub returns-in_default : goal.returns-in_default
 unfolding verdict_of
 returns-in_default c =

@@ -1,17 +1,6 @@
-use Prim.Native.Nat.{ℕ, zero, suc, ◌+◌, ◌-◌, ◌≤◌, ◌<◌}
-use mathlib.Core.Path.{◌≡◌, refl, sym, ap, ◌∙◌}
-use mathlib.Core.Bool.{true, false}
-use mathlib.Core.List.{List, [], ◌∷◌}
-use mathlib.Core.Logic.{⊎_elim}
+use mathlib.Core.Path.{refl}
 use native.Mathlib.Omega.{arith}
-use lib.ListN.{drop, get_or}
-use borrow.Author.Rules.{rules}
-use Rattle.qspi.specs.Choice.{pick}
-use Rattle.spi_nor.specs.Config.{from_jedec, look_up, known_nor_devices, unknown_device, capacity_bytes_of, same_id, jedec_id}
-use Rattle.spi_nor.specs.declared.config.NorJedecId.{NorJedecId}
-use Rattle.spi_nor.specs.declared.config.NorDeviceInfo.{NorDeviceInfo}
-use Rattle.qspi.proofs.Tests.{tests}
-use Rattle.spi_nor.proofs.Known.{rest, found, passed, past}
+use Rattle.spi_nor.specs.Config.{from_jedec}
 use Rattle.spi_nor.proofs.config.NorDeviceInfo.from_jedec.Goals as goal
 
 pub loop-idx-init : goal.loop-idx-init

@@ -1,6 +1,5 @@
 use Rattle.qspi.proofs.Tests.{tests}
 use Rattle.spi_nor.specs.Config.{in_bounds_of}
-use borrow.Author.Rules.{rules}
 use Rattle.spi_nor.proofs.config.NorDeviceInfo.in_bounds.Goals as goal
 
 pub returns-then-self-gt-MAX_CAPACITY : goal.returns-then-self-gt-MAX_CAPACITY

@@ -1,11 +1,8 @@
 use Prim.Native.Nat.{ℕ, ◌*◌, ◌%◌, ◌^◌, ◌≤◌}
 use mathlib.Core.Path.{◌≡◌}
-use mathlib.Core.Logic.{⊎_elim}
 use native.Mathlib.Omega.{arith}
 use native.Mathlib.Nat.{one-mul, mod-eq_of_lt}
 use lib.Pow.{pow-lt}
-use borrow.Author.Rules.{rules}
-use borrow.Author.Tests.{leb-true}
 use Rattle.spi_nor.specs.Config.{capacity_bytes_of}
 use Rattle.qspi.proofs.Tests.{tests}
 use Rattle.spi_nor.proofs.config.NorJedecId.capacity_bytes.Goals as goal
@@ -24,6 +21,6 @@ pub returns-else-code-ge16 : goal.returns-else-code-ge16
 unfolding capacity_bytes_of
 returns-else-code-ge16 c =
     elim c.else-code-ge16.branch [
-      else-code-ge16-via-then-code-ge16+else-code-le24 w ↦ (let h = w.if-code-ge16.true in let k = w.if-code-le24.false in simp tests)
+      | else-code-ge16-via-then-code-ge16+else-code-le24 w ↦ (let h = w.if-code-ge16.true in let k = w.if-code-le24.false in simp tests)
       | else-code-ge16-via-else-code-ge16 w ↦ (let h = w.if-code-ge16.false in simp tests)
     ]

@@ -1,0 +1,7 @@
+use Rattle.flash_lent.specs.Lent.{none_over}
+use borrow.Author.Rules.{rules}
+use Rattle.flash_lent.proofs.lent.with_none.Goals as goal
+
+pub returns : goal.returns
+unfolding none_over
+returns c = simp (← c.step.ensures)
