@@ -1,8 +1,6 @@
-use Prim.Native.Nat.{◌-◌}
-use mathlib.Core.Path.{◌≡◌, refl, ap, ◌∙◌}
+use mathlib.Core.Path.{ap, ◌∙◌}
 use native.Mathlib.Omega.{arith}
 use native.Mathlib.Numerals.{add-one}
-use lib.ListN.{length, drop}
 use borrow.Author.Rules.{rules}
 use Rattle.lines.specs.Text.{appended, put_of, text_of}
 use Rattle.flash_calls.specs.Answer.{answer_values}
@@ -14,12 +12,11 @@ pub returns-then-n-eq0 : goal.returns-then-n-eq0
 returns-then-n-eq0 c = no-values _ _ (omega (arith, c.value_count-n.ensures))
 
 pub loop-i-preserved : goal.loop-i-preserved
-loop-i-preserved c =
-    (
-      rw (add-one, c.field-behind.ensures, c.value.ensures)
-          (next_field (answer_values c.args.answer) c.loop-i.i (text_of c.loop-i.out c.loop-i.behind) (omega (arith, c.value_count-n.ensures)) ∙ c.loop-i.invariant.0),
-      search rules,
-    )
+loop-i-preserved c = (
+  rw (add-one, c.field-behind.ensures, c.value.ensures)
+      (next_field (answer_values c.args.answer) c.loop-i.i (text_of c.loop-i.out c.loop-i.behind) (omega (arith, c.value_count-n.ensures)) ∙ c.loop-i.invariant.0),
+  search rules,
+)
 
 pub returns : goal.returns
 returns c =

@@ -1,6 +1,5 @@
 use Rattle.lines.proofs.Appending.{appended-behind}
 use Rattle.flash_words.specs.End.{ended_lines}
-use borrow.Author.Rules.{rules}
 use Rattle.flash_words.proofs.end.ended.Goals as goal
 
 pub returns : goal.returns

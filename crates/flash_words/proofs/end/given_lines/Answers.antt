@@ -1,6 +1,5 @@
 use Rattle.lines.proofs.Appending.{appended-behind}
 use Rattle.flash_words.specs.End.{given_lines}
-use borrow.Author.Rules.{rules}
 use Rattle.flash_words.proofs.end.given_lines.Goals as goal
 
 pub returns-in-Act : goal.returns-in-Act

@@ -1,6 +1,5 @@
 use Rattle.qspi.proofs.Tests.{tests}
 use Rattle.nand_ranges.specs.Block.{erase_then}
-use borrow.Author.Rules.{rules}
 use Rattle.nand_ranges.proofs.block.erase_block.Goals as goal
 
 pub returns-then-block-geometry : goal.returns-then-block-geometry

@@ -1,5 +1,4 @@
 use Rattle.nand_ranges.specs.Block.{erased_then}
-use borrow.Author.Rules.{rules}
 use Rattle.nand_ranges.proofs.block.erased.Goals as goal
 
 pub returns-then-erase_failed : goal.returns-then-erase_failed

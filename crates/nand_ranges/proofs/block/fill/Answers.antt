@@ -1,6 +1,5 @@
 use Rattle.qspi.proofs.Tests.{tests}
 use Rattle.nand_ranges.specs.Block.{fill_from}
-use borrow.Author.Rules.{rules}
 use Rattle.nand_ranges.proofs.block.fill.Goals as goal
 
 pub returns-then-column-page_size : goal.returns-then-column-page_size

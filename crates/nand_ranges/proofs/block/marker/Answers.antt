@@ -1,5 +1,4 @@
 use Rattle.nand_ranges.specs.Block.{marker_then}
-use borrow.Author.Rules.{rules}
 use Rattle.nand_ranges.proofs.block.marker.Goals as goal
 
 pub returns-in-Call : goal.returns-in-Call

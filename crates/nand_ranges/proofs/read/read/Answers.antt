@@ -1,5 +1,4 @@
 use Rattle.nand_ranges.specs.Read.{read_then}
-use borrow.Author.Rules.{rules}
 use Rattle.nand_ranges.proofs.read.read.Goals as goal
 
 pub returns-then-in_range : goal.returns-then-in_range

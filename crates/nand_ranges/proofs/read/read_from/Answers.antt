@@ -1,6 +1,5 @@
 use Rattle.qspi.proofs.Tests.{tests}
 use Rattle.nand_ranges.specs.Read.{read_from}
-use borrow.Author.Rules.{rules}
 use Rattle.nand_ranges.proofs.read.read_from.Goals as goal
 
 pub returns-then-done-len : goal.returns-then-done-len

@@ -1,5 +1,4 @@
 use Rattle.nor_next.specs.Next.{next_of}
-use borrow.Author.Rules.{rules}
 use Rattle.nor_next.proofs.next.next.Goals as goal
 
 pub returns-in-Value : goal.returns-in-Value

@@ -1,5 +1,4 @@
 use Rattle.nor_next.specs.Wait.{latched_then}
-use borrow.Author.Rules.{rules}
 use Rattle.nor_next.proofs.wait.latched.Goals as goal
 
 pub returns-then-write_enabled : goal.returns-then-write_enabled

@@ -1,5 +1,4 @@
 use Rattle.nor_next.specs.Wait.{resume_task}
-use borrow.Author.Rules.{rules}
 use Rattle.nor_next.proofs.wait.resume.Goals as goal
 
 pub returns-in-EnableQuad2 : goal.returns-in-EnableQuad2

@@ -1,5 +1,4 @@
 use Rattle.nor_next.specs.Wait.{wait_then}
-use borrow.Author.Rules.{rules}
 use Rattle.nor_next.proofs.wait.waited_then.Goals as goal
 
 pub returns-in-Look : goal.returns-in-Look

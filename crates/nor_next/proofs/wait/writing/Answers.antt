@@ -1,5 +1,4 @@
 use Rattle.nor_next.specs.Wait.{writing_then}
-use borrow.Author.Rules.{rules}
 use Rattle.nor_next.proofs.wait.writing.Goals as goal
 
 pub returns-in-Enable : goal.returns-in-Enable
