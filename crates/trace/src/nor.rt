@@ -9,12 +9,7 @@ use trace_case::case;
 
 // Puts the trace of a case into out and gives its length. What has no place there is cut. The room is the memory for a call's
 // buffer or data, the reply that for the bytes of a data reply.
-pub fn nor_trace_case(
-    text: &[u8],
-    room: &mut [u8],
-    reply: &mut [u8],
-    out: &mut [u8],
-) -> usize
+pub fn nor_trace_case(text: &[u8], room: &mut [u8], reply: &mut [u8], out: &mut [u8]) -> usize
     ensures result_after { text_of out.new result ≡ (case_of Kind.Nor text.now room.old reply.old out.old).text }
     ensures room_after { room.new ≡ (case_of Kind.Nor text.now room.old reply.old out.old).room }
     ensures reply_after { reply.new ≡ (case_of Kind.Nor text.now room.old reply.old out.old).reply }

@@ -1,5 +1,4 @@
 use Rattle.nand_next.specs.Next.{after_phase}
-use borrow.Author.Rules.{rules}
 use Rattle.nand_next.proofs.next.after.Goals as goal
 
 pub returns-in-Raised : goal.returns-in-Raised

@@ -1,5 +1,4 @@
 use Rattle.nand_next.specs.Next.{answered_then}
-use borrow.Author.Rules.{rules}
 use Rattle.nand_next.proofs.next.answered.Goals as goal
 
 pub returns-in-Status : goal.returns-in-Status

@@ -1,5 +1,4 @@
 use Rattle.nand_next.specs.Next.{enabled_then}
-use borrow.Author.Rules.{rules}
 use Rattle.nand_next.proofs.next.enabled.Goals as goal
 
 pub returns-in-Call : goal.returns-in-Call

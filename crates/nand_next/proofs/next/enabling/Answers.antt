@@ -1,5 +1,4 @@
 use Rattle.nand_next.specs.Next.{enabling_then}
-use borrow.Author.Rules.{rules}
 use Rattle.nand_next.proofs.next.enabling.Goals as goal
 
 pub returns-in-Command : goal.returns-in-Command

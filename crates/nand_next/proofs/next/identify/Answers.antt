@@ -1,5 +1,4 @@
 use Rattle.nand_next.specs.Next.{identify_then}
-use borrow.Author.Rules.{rules}
 use Rattle.nand_next.proofs.next.identify.Goals as goal
 
 pub returns-then-bring_up : goal.returns-then-bring_up

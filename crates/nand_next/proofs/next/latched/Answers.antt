@@ -1,5 +1,4 @@
 use Rattle.nand_next.specs.Next.{latched_then}
-use borrow.Author.Rules.{rules}
 use Rattle.nand_next.proofs.next.latched.Goals as goal
 
 pub returns-then-write_enabled : goal.returns-then-write_enabled

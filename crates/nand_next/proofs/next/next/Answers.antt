@@ -1,5 +1,4 @@
 use Rattle.nand_next.specs.Next.{next_of}
-use borrow.Author.Rules.{rules}
 use Rattle.nand_next.proofs.next.next.Goals as goal
 
 pub returns-in-Value : goal.returns-in-Value

@@ -1,5 +1,4 @@
 use Rattle.nand_next.specs.Wait.{wait_then}
-use borrow.Author.Rules.{rules}
 use Rattle.nand_next.proofs.wait.go_on.Goals as goal
 
 pub returns-in-Look : goal.returns-in-Look

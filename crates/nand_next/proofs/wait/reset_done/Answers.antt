@@ -1,5 +1,4 @@
 use Rattle.nand_next.specs.Wait.{reset_then}
-use borrow.Author.Rules.{rules}
 use Rattle.nand_next.proofs.wait.reset_done.Goals as goal
 
 pub returns-in-Reset : goal.returns-in-Reset

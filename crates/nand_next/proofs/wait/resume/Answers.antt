@@ -1,5 +1,4 @@
 use Rattle.nand_next.specs.Wait.{resume_task}
-use borrow.Author.Rules.{rules}
 use Rattle.nand_next.proofs.wait.resume.Goals as goal
 
 pub returns-in-Reset : goal.returns-in-Reset

@@ -1,5 +1,4 @@
 use Rattle.nand_next.specs.Wait.{waiting_then}
-use borrow.Author.Rules.{rules}
 use Rattle.nand_next.proofs.wait.waiting.Goals as goal
 
 pub returns-in-Command : goal.returns-in-Command

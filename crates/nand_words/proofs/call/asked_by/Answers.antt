@@ -1,6 +1,5 @@
 use Rattle.trace_words.proofs.Within.{numbers-within}
 use Rattle.nand_words.specs.Call.{asked_of}
-use borrow.Author.Rules.{rules}
 use Rattle.nand_words.proofs.call.asked_by.Goals as goal
 
 pub call_of-requires : goal.call_of-requires

@@ -5,7 +5,6 @@ use Rattle.spi_flash.specs.declared.entry.Entry.{Entry}
 use Rattle.spi_nor.specs.Config.{in_bounds_of}
 use Rattle.nor_driver.specs.Call.{given_device}
 use Rattle.spi_flash.specs.Beginning.{constructed}
-use borrow.Author.Rules.{rules}
 use Rattle.nor_driver.proofs.call.construct.Goals as goal
 
 pub returns-in-Open : goal.returns-in-Open

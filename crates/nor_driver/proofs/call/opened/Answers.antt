@@ -8,7 +8,6 @@ use Rattle.nor_steps.specs.declared.then.Then.{Then}
 use Rattle.nor_driver.specs.Settle.{then_as, nor_shape}
 use Rattle.nor_driver.specs.declared.state.SpiNorFlash.{SpiNorFlash}
 use Rattle.nor_driver.specs.declared.state.Stepped.{Stepped}
-use borrow.Author.Rules.{rules}
 use Rattle.nor_driver.proofs.call.opened.Goals as goal
 
 on : (flash : SpiNorFlash) (takes : Takes) (setup : Setup) (next : Next) → settled nor_shape (fresh_call nor_shape flash) takes (then_as (Then.On setup next)) ≡ opened nor_shape flash takes (then_as (Then.On setup next))

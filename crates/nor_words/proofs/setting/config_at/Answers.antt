@@ -1,5 +1,4 @@
 use Rattle.nor_words.specs.Setting.{config_at}
-use borrow.Author.Rules.{rules}
 use Rattle.nor_words.proofs.setting.config_at.Goals as goal
 
 pub returns-in-End : goal.returns-in-End
