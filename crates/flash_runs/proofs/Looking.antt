@@ -7,7 +7,8 @@ use lib.Dec.{leb}
 use borrow.Author.Tests.{leb-false, le-leb}
 use Rattle.qspi.specs.declared.command.Command.{Command}
 use Rattle.qspi.specs.declared.transfer.Transfer.{Transfer}
-use Rattle.spi_flash.specs.Prog.{Prog, ret, fail, if◌then◌else◌, ◌>>◌, transfer}
+use Rattle.std.specs.Prelude.{if◌then◌else◌}
+use Rattle.spi_flash.specs.Prog.{Prog, ret, fail, ◌>>◌, transfer}
 use Rattle.spi_flash.specs.Wait.{u32_max, saturating_add}
 use Rattle.spi_flash.specs.WaitLaw.{waiting}
 use Rattle.spi_flash.specs.declared.error.FlashError.{FlashError}

@@ -6,7 +6,8 @@ use Rattle.qspi.specs.Transfer.{command_only}
 use Rattle.qspi.specs.Choice.{pick}
 use Rattle.qspi.specs.declared.transfer.Payload.{Payload}
 use Rattle.qspi.specs.declared.transfer.Sink.{Sink}
-use Rattle.spi_flash.specs.Prog.{Prog, ret, fail, if◌then◌else◌, ◌>>=◌, ◌>>◌, refuse, transfer}
+use Rattle.std.specs.Prelude.{if◌then◌else◌}
+use Rattle.spi_flash.specs.Prog.{Prog, ret, fail, ◌>>=◌, ◌>>◌, refuse, transfer}
 use Rattle.spi_flash.specs.WaitLaw.{waiting}
 use Rattle.spi_flash.specs.declared.error.FlashError.{FlashError}
 use Rattle.spi_nand.specs.Command.{get_feature_command, set_feature_command, block_erase_command}

@@ -9,7 +9,8 @@ use Rattle.qspi.specs.declared.transfer.Sink.{Sink}
 use Rattle.qspi.proofs.Cases.{by_cases}
 use Rattle.spi_flash.proofs.Laws.{then-assoc}
 use Rattle.spi_flash.specs.Machine.{tree}
-use Rattle.spi_flash.specs.Prog.{Prog, ret, fail, ask, if◌then◌else◌, ◌>>=◌, ◌>>◌, refuse}
+use Rattle.std.specs.Prelude.{if◌then◌else◌}
+use Rattle.spi_flash.specs.Prog.{Prog, ret, fail, ask, ◌>>=◌, ◌>>◌, refuse}
 use Rattle.spi_flash.specs.declared.error.FlashError.{FlashError}
 use Rattle.flash_runs.specs.Driver.{leaving}
 use Rattle.spi_nand.specs.Command.{reset_command}

@@ -13,7 +13,8 @@ use Rattle.qspi.specs.declared.transfer.Sink.{Sink}
 use Rattle.qspi.specs.declared.transfer.Body.{Body}
 use Rattle.qspi.specs.declared.transfer.Transfer.{Transfer}
 use Rattle.qspi.proofs.Cases.{by_cases}
-use Rattle.spi_flash.specs.Prog.{Prog, ret, fail, ask, if◌then◌else◌, ◌>>=◌, ◌>>◌, refuse, transfer}
+use Rattle.std.specs.Prelude.{if◌then◌else◌}
+use Rattle.spi_flash.specs.Prog.{Prog, ret, fail, ask, ◌>>=◌, ◌>>◌, refuse, transfer}
 use Rattle.spi_flash.specs.Wait.{first_wait, next_wait}
 use Rattle.spi_flash.specs.WaitLaw.{waiting, delayed_wait}
 use Rattle.spi_flash.specs.Machine.{more, tree, Simulates}

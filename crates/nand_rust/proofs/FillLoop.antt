@@ -6,7 +6,8 @@ use lib.Dec.{ltb}
 use borrow.Author.Tests.{le-leb, lt-leb}
 use Rattle.qspi.proofs.Cases.{by_order}
 use Rattle.qspi.specs.declared.transfer.Payload.{Payload}
-use Rattle.spi_flash.specs.Prog.{Prog, ret, ◌>>◌, if◌then◌else◌}
+use Rattle.std.specs.Prelude.{if◌then◌else◌}
+use Rattle.spi_flash.specs.Prog.{Prog, ret, ◌>>◌}
 use Rattle.spi_flash.proofs.Loops.{without-fuel}
 use Rattle.spi_nand.specs.declared.config.NandGeometry.{NandGeometry}
 use Rattle.nand_phases.specs.Transfer.{FILLER-CHUNK, filler_of}

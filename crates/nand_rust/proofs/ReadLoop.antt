@@ -5,7 +5,8 @@ use native.Mathlib.Nat.{mod-lt}
 use mathlib.Core.Path.{◌≡◌, refl}
 use lib.Dec.{ltb}
 use Rattle.qspi.specs.declared.transfer.Sink.{Sink}
-use Rattle.spi_flash.specs.Prog.{Prog, ret, ◌>>◌, if◌then◌else◌}
+use Rattle.std.specs.Prelude.{if◌then◌else◌}
+use Rattle.spi_flash.specs.Prog.{Prog, ret, ◌>>◌}
 use Rattle.spi_flash.proofs.Laws.{then-assoc}
 use Rattle.spi_flash.proofs.Loops.{turn_of, without-fuel}
 use Rattle.spi_flash.proofs.Pieces.{piece-some}

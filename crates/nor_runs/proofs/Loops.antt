@@ -6,7 +6,8 @@ use mathlib.Core.Bool.{Bool, true, false}
 use mathlib.Core.Path.{◌≡◌, refl}
 use lib.Dec.{ltb}
 use Rattle.qspi.specs.declared.transfer.Sink.{Sink}
-use Rattle.spi_flash.specs.Prog.{Prog, ret, ◌>>=◌, ◌>>◌, if◌then◌else◌, refuse, transfer}
+use Rattle.std.specs.Prelude.{if◌then◌else◌}
+use Rattle.spi_flash.specs.Prog.{Prog, ret, ◌>>=◌, ◌>>◌, refuse, transfer}
 use Rattle.spi_nor.specs.Opcode.{MAX-BULK-LEN}
 use Rattle.spi_nor.specs.Config.{in_bounds_of}
 use Rattle.nor_phases.specs.Transfer.{place_of, chunk_of, page_of, read_transfer, in_range, unit_size, step_kind, after_unit}

@@ -6,7 +6,8 @@ use lib.Dec.{ltb, leb, eqb}
 use borrow.Author.Tests.{leb-true, leb-false, le-ltb, lt-ltb}
 use Rattle.qspi.specs.Transfer.{command_only}
 use Rattle.qspi.specs.declared.transfer.Transfer.{Transfer}
-use Rattle.spi_flash.specs.Prog.{Prog, ret, fail, ask, if◌then◌else◌, ◌>>=◌, ◌>>◌, refuse, transfer}
+use Rattle.std.specs.Prelude.{if◌then◌else◌}
+use Rattle.spi_flash.specs.Prog.{Prog, ret, fail, ask, ◌>>=◌, ◌>>◌, refuse, transfer}
 use Rattle.spi_flash.specs.Wait.{first_wait, next_wait}
 use Rattle.spi_flash.specs.WaitLaw.{waiting, prompt_wait}
 use Rattle.spi_flash.specs.Machine.{more, tree, Simulates}

@@ -13,7 +13,8 @@ use Rattle.qspi.specs.declared.transfer.Body.{Body}
 use Rattle.qspi.specs.declared.transfer.Transfer.{Transfer}
 use Rattle.spi_flash.specs.declared.error.FlashError.{FlashError}
 use Rattle.spi_flash.specs.declared.wait.Timings.{Timings}
-use Rattle.spi_flash.specs.Prog.{Prog, ret, fail, ◌>>=◌, ◌>>◌, if◌then◌else◌, transfer}
+use Rattle.std.specs.Prelude.{if◌then◌else◌}
+use Rattle.spi_flash.specs.Prog.{Prog, ret, fail, ◌>>=◌, ◌>>◌, transfer}
 use Rattle.spi_flash.specs.Path.{Every, delays, Bounded, Ends}
 use Rattle.spi_flash.specs.WaitLaw.{look_at, wait_loop, waiting, delayed_wait, prompt_wait, WaitLoop, poll_count, look_weight, looking, pausing, TakesTurns, WaitLaw, WaitInGeneral}
 use Rattle.spi_flash.proofs.Laws.{bounded-ask, bounded-ret, bounded-fail, bounded-then, bounded-if, bounded-more, bounded-transfer, ends-ask, ends-ret, ends-then, ends-transfer, ends-eq}

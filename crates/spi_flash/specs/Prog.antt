@@ -6,7 +6,6 @@ use Rattle.spi_flash.specs.declared.error.FlashError.{FlashError}
 
 infixl 20 ◌>>=◌
 infixl 20 ◌>>◌
-infixr 10 if◌then◌else◌
 pub data Prog (A : Type 0) : Type 0 where
   ret : A → Prog A
   fail : FlashError → Prog A
@@ -19,11 +18,6 @@ unfoldable pub ◌>>=◌ : {A B : Type 0} → Prog A → (A → Prog B) → Prog
 
 unfoldable pub ◌>>◌ : {A B : Type 0} → Prog A → Prog B → Prog B
 ◌>>◌ p q = p >>= (λ _. q)
-
--- `if c { .. } else { .. }`
-abbrev pub if◌then◌else◌ : {A : Type 0} → Bool → A → A → A
-if◌then◌else◌ true a b = a
-if◌then◌else◌ false a b = b
 
 -- `if c { return Err(e) }`
 unfoldable pub refuse : Bool → FlashError → Prog (Unit {0})

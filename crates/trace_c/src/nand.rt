@@ -4,7 +4,6 @@ ghost use Rattle.lines.specs.Text.{text_of};
 ghost use Rattle.flash_calls.specs.declared.call.Kind.{Kind};
 ghost use Rattle.trace_case.specs.Case.{case_of};
 
-
 // See `trace::nand`.
 #[unsafe(no_mangle)]
 pub extern "C" fn nand_trace_case(

@@ -1,7 +1,6 @@
 use Prim.Native.Nat.{◌-◌}
 use lib.ListN.{length}
 use mathlib.Core.Path.{◌≡◌}
-use borrow.Author.Rules.{rules}
 use Rattle.nor_replay.proofs.main.Given as goal
 
 abbrev pub invariant-loop-i : goal.invariant-loop-i

@@ -1,5 +1,4 @@
 use Rattle.dialect.specs.Heard.{call_heard}
-use borrow.Author.Rules.{rules}
 use Rattle.dialect.proofs.heard.call_heard.Goals as goal
 
 pub returns-in-Begin : goal.returns-in-Begin

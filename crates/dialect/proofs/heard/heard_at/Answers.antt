@@ -1,6 +1,5 @@
 use Rattle.trace_words.proofs.Others.{no_call}
 use Rattle.dialect.specs.Heard.{heard_of}
-use borrow.Author.Rules.{rules}
 use Rattle.dialect.proofs.heard.heard_at.Goals as goal
 
 pub returns-in-Call : goal.returns-in-Call

@@ -1,6 +1,5 @@
 use Rattle.dialect.proofs.Others.{nothing-out}
 use Rattle.dialect.specs.Hears.{awaited_of}
-use borrow.Author.Rules.{rules}
 use Rattle.dialect.proofs.hears.awaited.Goals as goal
 
 pub returns-in_default : goal.returns-in_default

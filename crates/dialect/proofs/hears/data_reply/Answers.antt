@@ -3,7 +3,6 @@ use native.Mathlib.Omega.{arith}
 use lib.ListN.{length}
 use Rattle.qspi.proofs.Tests.{tests}
 use Rattle.dialect.specs.Hears.{data_hears}
-use borrow.Author.Rules.{rules}
 use Rattle.dialect.proofs.hears.data_reply.Goals as goal
 
 pub returns-then-reply-n : goal.returns-then-reply-n

@@ -1,5 +1,4 @@
 use Rattle.dialect.specs.Hears.{replied_of}
-use borrow.Author.Rules.{rules}
 use Rattle.dialect.proofs.hears.replied.Goals as goal
 
 pub returns-in-Passed : goal.returns-in-Passed

@@ -1,5 +1,4 @@
 use Rattle.dialect.specs.Words.{line_of}
-use borrow.Author.Rules.{rules}
 use Rattle.dialect.proofs.words.line_of.Goals as goal
 
 pub returns-in-Nor : goal.returns-in-Nor

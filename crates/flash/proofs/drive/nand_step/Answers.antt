@@ -1,5 +1,4 @@
 use Rattle.flash.specs.Drive.{nand_moved_of}
-use borrow.Author.Rules.{rules}
 use Rattle.flash.proofs.drive.nand_step.Goals as goal
 
 pub returns : goal.returns

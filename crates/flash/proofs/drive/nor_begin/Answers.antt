@@ -1,5 +1,4 @@
 use Rattle.flash.specs.Drive.{nor_begun}
-use borrow.Author.Rules.{rules}
 use Rattle.flash.proofs.drive.nor_begin.Goals as goal
 
 pub returns-in-Nor : goal.returns-in-Nor

@@ -1,5 +1,4 @@
 use Rattle.flash.specs.Drive.{nor_moved_of}
-use borrow.Author.Rules.{rules}
 use Rattle.flash.proofs.drive.nor_step.Goals as goal
 
 pub returns : goal.returns

@@ -1,5 +1,4 @@
 use Rattle.flash.specs.Drive.{step_of}
-use borrow.Author.Rules.{rules}
 use Rattle.flash.proofs.drive.step.Goals as goal
 
 pub returns-in-Nor : goal.returns-in-Nor

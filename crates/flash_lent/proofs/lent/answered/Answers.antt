@@ -1,6 +1,5 @@
 use mathlib.Core.Path.{ap}
 use Rattle.flash_lent.specs.Lent.{answered_over, none_over, kept_over}
-use borrow.Author.Rules.{rules}
 use Rattle.flash_lent.proofs.lent.answered.Goals as goal
 
 pub returns-in-Nothing : goal.returns-in-Nothing

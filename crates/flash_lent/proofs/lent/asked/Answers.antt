@@ -1,5 +1,4 @@
 use Rattle.flash_lent.specs.Lent.{asked_over}
-use borrow.Author.Rules.{rules}
 use Rattle.flash_lent.proofs.lent.asked.Goals as goal
 
 pub returns-in-Nothing : goal.returns-in-Nothing

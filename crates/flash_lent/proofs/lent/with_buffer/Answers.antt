@@ -1,8 +1,5 @@
-use native.Mathlib.Omega.{arith}
-use lib.ListN.{length-take}
 use Rattle.qspi.proofs.Tests.{tests}
 use Rattle.flash_lent.specs.Lent.{buffer_over}
-use borrow.Author.Rules.{rules}
 use Rattle.flash_lent.proofs.lent.with_buffer.Goals as goal
 
 pub returns-then-n-room : goal.returns-then-n-room

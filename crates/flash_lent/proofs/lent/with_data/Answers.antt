@@ -1,5 +1,4 @@
 use Rattle.flash_lent.specs.Lent.{data_over}
-use borrow.Author.Rules.{rules}
 use Rattle.flash_lent.proofs.lent.with_data.Goals as goal
 
 pub returns : goal.returns

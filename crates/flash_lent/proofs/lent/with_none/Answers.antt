@@ -1,5 +1,4 @@
 use Rattle.flash_lent.specs.Lent.{none_over}
-use borrow.Author.Rules.{rules}
 use Rattle.flash_lent.proofs.lent.with_none.Goals as goal
 
 pub returns : goal.returns

@@ -1,5 +1,4 @@
 use Rattle.flash_turns.specs.Answering.{answering_of}
-use borrow.Author.Rules.{rules}
 use Rattle.flash_turns.proofs.answering.answering.Goals as goal
 
 pub returns : goal.returns

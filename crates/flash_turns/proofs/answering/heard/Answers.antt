@@ -1,5 +1,4 @@
 use Rattle.flash_turns.specs.Answering.{heard_then}
-use borrow.Author.Rules.{rules}
 use Rattle.flash_turns.proofs.answering.heard.Goals as goal
 
 pub returns-in-Answer : goal.returns-in-Answer

@@ -1,5 +1,4 @@
 use Rattle.flash_turns.specs.Giving.{giving_of}
-use borrow.Author.Rules.{rules}
 use Rattle.flash_turns.proofs.giving.giving.Goals as goal
 
 pub returns : goal.returns

@@ -1,5 +1,4 @@
 use Rattle.flash_turns.specs.Reading.{called_of}
-use borrow.Author.Rules.{rules}
 use Rattle.flash_turns.proofs.reading.called.Goals as goal
 
 pub returns-in-Begin : goal.returns-in-Begin

@@ -1,6 +1,5 @@
 use Rattle.trace_words.proofs.Others.{no_call}
 use Rattle.flash_turns.specs.Reading.{reading_of}
-use borrow.Author.Rules.{rules}
 use Rattle.flash_turns.proofs.reading.reading.Goals as goal
 
 pub returns-in-Call : goal.returns-in-Call

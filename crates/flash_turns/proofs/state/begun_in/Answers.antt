@@ -1,6 +1,5 @@
 use Rattle.flash_turns.proofs.Others.{no-call-begun}
 use Rattle.flash_turns.specs.State.{begun_in}
-use borrow.Author.Rules.{rules}
 use Rattle.flash_turns.proofs.state.begun_in.Goals as goal
 
 pub returns-in_default : goal.returns-in_default

@@ -1,5 +1,4 @@
 use Rattle.flash_turns.specs.Turn.{turn_of}
-use borrow.Author.Rules.{rules}
 use Rattle.flash_turns.proofs.turn.turn.Goals as goal
 
 pub returns-in-Reading : goal.returns-in-Reading

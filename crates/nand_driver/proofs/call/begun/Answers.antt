@@ -1,5 +1,4 @@
 use Rattle.spi_flash.specs.Beginning.{begun}
-use borrow.Author.Rules.{rules}
 use Rattle.nand_driver.proofs.call.begun.Goals as goal
 
 pub returns-in-Open : goal.returns-in-Open

@@ -5,7 +5,6 @@ use Rattle.spi_flash.specs.declared.entry.Entry.{Entry}
 use Rattle.spi_nand.specs.Config.{in_bounds}
 use Rattle.nand_driver.specs.Call.{given_geometry}
 use Rattle.spi_flash.specs.Beginning.{constructed}
-use borrow.Author.Rules.{rules}
 use Rattle.nand_driver.proofs.call.construct.Goals as goal
 
 pub returns-in-Open : goal.returns-in-Open

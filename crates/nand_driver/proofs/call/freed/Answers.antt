@@ -1,5 +1,4 @@
 use Rattle.spi_flash.specs.Beginning.{freed}
-use borrow.Author.Rules.{rules}
 use Rattle.nand_driver.proofs.call.freed.Goals as goal
 
 pub returns-then-flash : goal.returns-then-flash

@@ -1,5 +1,4 @@
 use Rattle.spi_flash.specs.Beginning.{at_rest}
-use borrow.Author.Rules.{rules}
 use Rattle.nand_driver.proofs.call.idle.Goals as goal
 
 pub returns-in-Constructs : goal.returns-in-Constructs

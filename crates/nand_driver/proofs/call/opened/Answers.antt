@@ -8,7 +8,6 @@ use Rattle.nand_steps.specs.declared.then.Then.{Then}
 use Rattle.nand_driver.specs.Settle.{then_as, nand_shape}
 use Rattle.nand_driver.specs.declared.state.SpiNandFlash.{SpiNandFlash}
 use Rattle.nand_driver.specs.declared.state.Stepped.{Stepped}
-use borrow.Author.Rules.{rules}
 use Rattle.nand_driver.proofs.call.opened.Goals as goal
 
 on : (flash : SpiNandFlash) (takes : Takes) (setup : Setup) (next : Next) → settled nand_shape (fresh_call nand_shape flash) takes (then_as (Then.On setup next)) ≡ opened nand_shape flash takes (then_as (Then.On setup next))

@@ -1,5 +1,4 @@
 use Rattle.spi_flash.specs.Settling.{settled}
-use borrow.Author.Rules.{rules}
 use Rattle.nand_driver.proofs.settle.settle.Goals as goal
 
 pub returns-in-Fail : goal.returns-in-Fail

@@ -1,5 +1,4 @@
 use Rattle.nand_opening.specs.Opening.{opening_of}
-use borrow.Author.Rules.{rules}
 use Rattle.nand_opening.proofs.opening.opening_of.Goals as goal
 
 pub returns-in-New : goal.returns-in-New

@@ -1,5 +1,4 @@
 use Rattle.spi_flash.specs.Replying.{steps}
-use borrow.Author.Rules.{rules}
 use Rattle.nand_reply.proofs.step.step.Goals as goal
 
 pub returns-in_default : goal.returns-in_default

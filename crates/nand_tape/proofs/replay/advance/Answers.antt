@@ -7,7 +7,6 @@ use Rattle.nand_driver.specs.Settle.{given_as}
 use Rattle.tape.specs.Replaying.{advanced_then, advanced_over}
 use Rattle.nand_tape.specs.Replay.{nand_taped, Played, played_to}
 use Rattle.nand_tape.specs.declared.replay.Replay.{Replay}
-use borrow.Author.Rules.{rules}
 use Rattle.nand_tape.proofs.replay.advance.Goals as goal
 
 stays : (given : Given) (replay : Replay) (tape scratch buffer lent : List ℕ) (p : Played Replay) → ((action : Action) → given ≡ Given.Act action → ⊥) → p ≡ played_to replay scratch buffer → p ≡ advanced_then nand_taped (given_as given) replay tape scratch buffer lent

@@ -1,5 +1,4 @@
 use Rattle.tape.specs.Replaying.{begun_over}
-use borrow.Author.Rules.{rules}
 use Rattle.nand_tape.proofs.replay.begin.Goals as goal
 
 pub returns-then-well_formed : goal.returns-then-well_formed

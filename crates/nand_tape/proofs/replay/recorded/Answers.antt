@@ -1,5 +1,4 @@
 use Rattle.tape.specs.Replaying.{record_over}
-use borrow.Author.Rules.{rules}
 use Rattle.nand_tape.proofs.replay.recorded.Goals as goal
 
 pub returns-then-none_left : goal.returns-then-none_left

@@ -1,6 +1,5 @@
 use borrow.Author.Tests.{le-leb, lt-leb}
 use Rattle.nor_tape.specs.Program.{begun_input}
-use borrow.Author.Rules.{rules}
 use Rattle.nor_tape.proofs.program.begin.Goals as goal
 
 pub returns-then-input-le-INPUT_MOST : goal.returns-then-input-le-INPUT_MOST

@@ -1,7 +1,6 @@
 use Prim.Native.Nat.{ℕ}
 use mathlib.Core.List.{List}
 use mathlib.Core.Path.{◌≡◌, refl}
-use borrow.Author.Rules.{rules}
 use Rattle.lines.specs.Line.{end_line}
 use Rattle.lines.specs.Text.{Text, appended}
 use Rattle.nor_driver.specs.Answer.{ending_number}

@@ -1,6 +1,5 @@
 use mathlib.Core.Bool.{Bool, true}
 use mathlib.Core.Path.{◌≡◌, refl}
-use borrow.Author.Rules.{rules}
 use Rattle.qspi.specs.declared.bus.Action.{Action}
 use Rattle.nor_driver.specs.declared.state.Given.{Given}
 use Rattle.nor_tape.specs.Program.{over_at, over_of}

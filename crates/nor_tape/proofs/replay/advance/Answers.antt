@@ -7,7 +7,6 @@ use Rattle.nor_driver.specs.Settle.{given_as}
 use Rattle.tape.specs.Replaying.{advanced_then, advanced_over}
 use Rattle.nor_tape.specs.Replay.{nor_taped, Played, played_to}
 use Rattle.nor_tape.specs.declared.replay.Replay.{Replay}
-use borrow.Author.Rules.{rules}
 use Rattle.nor_tape.proofs.replay.advance.Goals as goal
 
 stays : (given : Given) (replay : Replay) (tape scratch buffer lent : List ℕ) (p : Played Replay) → ((action : Action) → given ≡ Given.Act action → ⊥) → p ≡ played_to replay scratch buffer → p ≡ advanced_then nor_taped (given_as given) replay tape scratch buffer lent

@@ -1,5 +1,4 @@
 use Rattle.tape.specs.Replaying.{plain_over}
-use borrow.Author.Rules.{rules}
 use Rattle.nor_tape.proofs.replay.plain.Goals as goal
 
 pub returns : goal.returns

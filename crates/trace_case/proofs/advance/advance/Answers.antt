@@ -1,5 +1,4 @@
 use Rattle.trace_case.proofs.Turns.{one-turn}
-use borrow.Author.Rules.{rules}
 use Rattle.trace_case.proofs.advance.advance.Goals as goal
 
 pub returns : goal.returns

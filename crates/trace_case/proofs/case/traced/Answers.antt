@@ -1,10 +1,7 @@
 use Prim.Native.Nat.{◌-◌}
-use mathlib.Core.Path.{◌≡◌, ap, sym, ◌∙◌}
-use native.Mathlib.Nat.{sub-zero}
-use lib.ListN.{length}
+use mathlib.Core.Path.{ap, sym, ◌∙◌}
 use borrow.Author.Rules.{rules}
-use Rattle.lines.specs.Text.{text_of}
-use Rattle.trace_case.specs.Case.{Traced, traced_to, turns_of}
+use Rattle.trace_case.specs.Case.{Traced}
 use Rattle.trace_case.proofs.Turns.{turn-taken, turns-over, turns-spent, whole-case}
 use Rattle.trace_case.proofs.case.traced.Goals as goal
 
@@ -17,15 +14,14 @@ returns-then-over c =
     }
 
 pub loop-i-preserved : goal.loop-i-preserved
-loop-i-preserved c =
-    (
-      rw c.advance-trace.ensures
-          (turn-taken _ _ _ _ c.loop-i-test.true (sym c.over.ensures ∙ c.if-over.false) ∙ c.loop-i.invariant.0),
-      search rules,
-      search rules,
-      search rules,
-      search rules,
-    )
+loop-i-preserved c = (
+  rw c.advance-trace.ensures
+      (turn-taken _ _ _ _ c.loop-i-test.true (sym c.over.ensures ∙ c.if-over.false) ∙ c.loop-i.invariant.0),
+  search rules,
+  search rules,
+  search rules,
+  search rules,
+)
 
 pub returns : goal.returns
 returns c =

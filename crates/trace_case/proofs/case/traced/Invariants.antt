@@ -1,11 +1,8 @@
 use Prim.Native.Nat.{◌-◌}
-use mathlib.Core.Path.{◌≡◌, ap, sym, ◌∙◌}
-use native.Mathlib.Nat.{sub-zero}
+use mathlib.Core.Path.{◌≡◌}
 use lib.ListN.{length}
-use borrow.Author.Rules.{rules}
 use Rattle.lines.specs.Text.{text_of}
-use Rattle.trace_case.specs.Case.{Traced, traced_to, turns_of}
-use Rattle.trace_case.proofs.Turns.{turn-taken, turns-over, turns-spent, whole-case}
+use Rattle.trace_case.specs.Case.{traced_to, turns_of}
 use Rattle.trace_case.proofs.case.traced.Given as goal
 
 abbrev pub invariant-loop-i : goal.invariant-loop-i

@@ -1,5 +1,4 @@
 use Rattle.spi_flash.specs.Beginning.{begins}
-use borrow.Author.Rules.{rules}
 use Rattle.nand_driver.proofs.state.SpiNandFlash.begin_lent.Goals as goal
 
 pub returns-in-Idle : goal.returns-in-Idle
