@@ -43,6 +43,7 @@ pub fn is_bad_block(setup: Setup, block: usize, why: MarkerFor) -> Then
 }
 
 // The end of a load's wait: its verdict is that of the next status.
+#[tactic(auto, unfolding(crate::specs::Page::loaded_then))]
 pub fn loaded(setup: Setup, why: LoadFor) -> Then
     ensures { result ≡ loaded_then setup why }
 {

@@ -22,6 +22,7 @@ pub enum Wait {
 }
 
 // How a wait begins: with its first delay, or at once where that is 0.
+#[tactic(auto, unfolding(crate::specs::Wait::first_wait))]
 pub fn begin(timings: Timings) -> Wait
     ensures { result ≡ first_wait timings }
 {

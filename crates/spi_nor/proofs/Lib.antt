@@ -3,3 +3,4 @@ pub mod StatusBits
 pub mod DeviceBounds
 pub mod DatasheetAgrees
 mod Known
+pub mod Shifts

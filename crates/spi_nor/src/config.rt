@@ -37,6 +37,7 @@ pub enum CapacityBytes {
 }
 
 impl NorJedecId {
+    #[tactic(auto, using(crate::proofs::Shifts::shifted), unfolding(crate::specs::Config::capacity_bytes_of))]
     pub fn capacity_bytes(self) -> CapacityBytes
         ensures { result ≡ capacity_bytes_of self }
     {
