@@ -52,16 +52,14 @@ fn print_cases<R: Input + Print>(rt: &R, input: &mut [u8; INPUT]) -> io::Result<
     let n = streams::read_full(rt, input)?;
     let mut left = bytes::delivered(input, n);
     let mut kind = Kind::Nor;
-    let mut i = 0;
-    while i < CASES_MOST {
-        if left.len() == 0 {
+    for _ in 0..CASES_MOST {
+        if left.is_empty() {
             return Ok(());
         }
         let len = word::before(left, MARK);
         show(rt, kind, bytes::delivered(left, len))?;
         kind = kind_behind(kind, len);
         left = word::behind(word::behind(left, len), MARK_LEN);
-        i += 1;
     }
     Ok(())
 }

@@ -1,110 +1,77 @@
 -- Digits one by one, and the bytes that pairs of them write.
-use Prim.Native.Nat.{ℕ, zero, suc, ◌+◌, ◌-◌, ◌*◌, ◌/◌, ◌≤◌, ◌<◌}
-use mathlib.Core.Path.{◌≡◌, refl, ap, ap₂, sym, ◌∙◌}
-use mathlib.Core.Bool.{Bool, true, false}
-use mathlib.Core.List.{List, [], ◌∷◌}
-use native.Mathlib.Omega.{arith}
-use native.Mathlib.Nat.{le_trans, le-mul_of_pos_right, zero-add, le-div_iff_mul-le, div-lt_iff_lt-mul}
-use lib.ListN.{length, drop, set, get_or, drop_of_length-le}
-use lib.Seq.{drop-cons, paste, paste-suc, take-length}
-use borrow.Author.Tests.{lt-ltb, le-ltb, le-leb, lt-leb, ne_eqb, eq-eqb}
+use Rattle.std.proofs.Common.{ℕ, zero, suc, ◌&&◌, Bool, true, false, Some, None, take, ◌+◌, ◌-◌, ◌*◌, ◌/◌, ◌≤◌, ◌<◌, ◌≡◌, refl, ap₂, sym, ◌∙◌, List, [], ◌∷◌, arith, zero-add, length, set, get_or, ltb, eqb}
+use Rattle.std.proofs.Math.Seq.{paste, paste-suc, take-length}
+use Rattle.std.proofs.lemmas.Int.Digits.{digits_value_more}
+use Rattle.std.proofs.lemmas.List.Folds.{list_all_at, list_all_more}
+use Rattle.std.proofs.lemmas.Str.Parse.{digits_value-take-le}
+use Rattle.std.specs.Bool.{MatchBool}
+use Rattle.std.specs.Char.{digit_value, is_ascii}
+use Rattle.std.specs.List.{list_all}
+use Rattle.std.specs.Str.{IsAscii, IsNotAscii}
+use Rattle.std.specs.Str.Parse.{digits_value}
+use borrow.Author.Tests.{lt-ltb, le-ltb, le-leb, lt-leb, ne_eqb}
 use Rattle.qspi.specs.Bytes.{delivered_of}
-use Rattle.case_text.specs.Number.{digit_of, digits_in, value_from, number_to, number_in, is_hex_of, byte_of, bytes_of, pairs_over}
-use Rattle.case_text.specs.declared.word.Number.{Number}
+use Rattle.case_text.specs.Number.{digits_in, number_to, number_in, byte_of, bytes_of, pairs_over}
 
-module _ (radix : ℕ) (s : List ℕ) (i : ℕ) where
-  pub digits-end : length s ≤ i → digits_in radix (drop i s) ≡ true
-  unfolding digits_in
-  digits-end h = rw (drop_of_length-le s h) refl
+-- ---- digits one by one
 
-  pub digits-bad : i < length s → radix ≤ digit_of (get_or s i 0) → digits_in radix (drop i s) ≡ false
-  unfolding digits_in
-  digits-bad h l = rw (drop-cons s i 0 h, le-ltb _ _ l) refl
+reach : (m a b n : ℕ) → b ≡ a → b ≤ n → m < a → m < n
+reach m a b n e l h = omega arith
 
-  pub digits-on : i < length s → digit_of (get_or s i 0) < radix → digits_in radix (drop i s) ≡ digits_in radix (drop (suc i) s)
-  unfolding digits_in
-  digits-on h l = rw (drop-cons s i 0 h, lt-ltb _ _ l) refl
-
-  pub value-end : (value : ℕ) → length s ≤ i → value_from radix value (drop i s) ≡ value
-  unfolding value_from
-  value-end value h = rw (drop_of_length-le s h) refl
-
-  pub value_on : (value : ℕ) → i < length s →
-      value_from radix value (drop i s) ≡ value_from radix (value * radix + digit_of (get_or s i 0)) (drop (suc i) s)
-  unfolding value_from
-  value_on value h = rw (drop-cons s i 0 h) refl
-
--- no digit makes a value smaller
-pub value_grows : (radix value : ℕ) (s : List ℕ) → 1 ≤ radix → value ≤ value_from radix value s
-unfolding value_from
-value_grows radix value [] h = omega arith
-value_grows radix value (c ∷ cs) h =
-    let m : value ≤ value * radix = le-mul_of_pos_right value h in
-    le_trans (omega arith) (value_grows radix (value * radix + digit_of c) cs h)
-
--- one more digit, by the code's test of whether it fits
-module _ (radix value d : ℕ) (h : 1 ≤ radix) (l : d ≤ 18446744073709551615) where
-  pub value-fits : value ≤ (18446744073709551615 - d) / radix → value * radix + d ≤ 18446744073709551615
-  value-fits t = let m = (le-div_iff_mul-le h).0 t in omega arith
-
-  pub value-past : (18446744073709551615 - d) / radix < value → 18446744073709551615 < value * radix + d
-  value-past t = let m = (div-lt_iff_lt-mul h).0 t in omega arith
-
--- ---- the number of the digits
-
-number_past : (b : Bool) (value : ℕ) → 18446744073709551615 < value → number_to b value ≡ Number.Malformed
-number_past true value h = rw (lt-leb _ _ h) refl
-number_past false value h = refl
+past : (good : Bool) (value : ℕ) → 18446744073709551615 < value → None ≡ number_to good value
+past true value m = rw (lt-leb _ _ m) refl
+past false value m = refl
 
 module _ (radix : ℕ) (s : List ℕ) where
-  pub none : length s ≡ 0 → Number.Malformed ≡ number_in radix s
+  pub all-digits : eqb (length s) 0 ≡ false → digits_in radix s ≡ true → (value : ℕ) → value ≡ digits_value radix s → value ≤ 18446744073709551615 →
+      Some value ≡ number_in radix s
   unfolding number_in
-  none h = rw (eq-eqb _ _ h) refl
+  all-digits h e value is l = rw (h, e, ← is, le-leb _ _ l) refl
 
-  module _ (h : length s ≡ 0 → ⊥) where
-    pub no-digits : digits_in radix s ≡ false → Number.Malformed ≡ number_in radix s
-    unfolding number_in
-    no-digits e = rw (ne_eqb _ _ h, e) refl
+  module _ (i : ℕ) (h : i < length s) where
+    some : length s ≡ 0 → ⊥
+    some e = omega arith
 
-    pub past : 18446744073709551615 < value_from radix 0 s → Number.Malformed ≡ number_in radix s
-    unfolding number_in
-    past l = rw (ne_eqb _ _ h) (sym (number_past (digits_in radix s) (value_from radix 0 s) l))
+    pub digits-more : digits_in radix (take i s) ≡ true → digit_value (get_or s i 0) < radix → digits_in radix (take (i + 1) s) ≡ true
+    unfolding digits_in
+    digits-more e l = rw (list_all_more (λ c. ltb (digit_value c) radix) s i 0 h, e, lt-ltb _ _ l) refl
 
-    pub some : (value : ℕ) → digits_in radix s ≡ true → value_from radix 0 s ≡ value → value ≤ 18446744073709551615 →
-        Number.Value value ≡ number_in radix s
-    unfolding number_in
-    some value e v l = rw (ne_eqb _ _ h, e, v, le-leb _ _ l) refl
+    pub no-digit : radix ≤ digit_value (get_or s i 0) → None ≡ number_in radix s
+    unfolding number_in digits_in
+    no-digit l = rw (ne_eqb _ _ some, list_all_at (λ c. ltb (digit_value c) radix) s i 0 h (le-ltb _ _ l)) refl
+
+    module _ (value r d : ℕ) (v : value ≡ digits_value radix (take i s)) (q : r ≡ radix) (e : d ≡ digit_value (get_or s i 0)) where
+      pub value-more : value * r + d ≡ digits_value radix (take (i + 1) s)
+      value-more = rw (digits_value_more radix s i h, v, q, e) refl
+
+      -- no digit makes a value smaller
+      pub too_large : 1 ≤ radix → 18446744073709551615 < value * r + d → None ≡ number_in radix s
+      unfolding number_in
+      too_large one l =
+          rw (ne_eqb _ _ some)
+          (past (digits_in radix s) (digits_value radix s)
+          (reach 18446744073709551615 (value * r + d) (digits_value radix (take (i + 1) s)) (digits_value radix s) (sym value-more) (digits_value-take-le radix s (i + 1) one) l))
+
+-- ---- ASCII
+
+all-ascii : (s : List ℕ) → IsAscii s → true ≡ list_all is_ascii s
+all-ascii [] h = refl
+all-ascii (c ∷ cs) h = rw (lt-ltb c 128 (h 0)) (all-ascii cs (λ i. h (suc i)))
+
+and-false : (b : Bool) → false ≡ (b && false)
+and-false true = refl
+and-false false = refl
+
+not-ascii : (s : List ℕ) (i : ℕ) → 128 ≤ get_or s i 0 → false ≡ list_all is_ascii s
+not-ascii [] i h = absurd (omega arith)
+not-ascii (c ∷ cs) zero h = rw (le-ltb c 128 h) refl
+not-ascii (c ∷ cs) (suc i) h = rw (← not-ascii cs i h) (and-false (is_ascii c))
+
+pub ascii_is : (r : Bool) (s : List ℕ) → MatchBool r (IsAscii s) (IsNotAscii s) → r ≡ list_all is_ascii s
+ascii_is true s h = all-ascii s h
+ascii_is false s h = not-ascii s h.0 h.1
 
 -- ---- pairs of digits
-
-module _ (s : List ℕ) (i : ℕ) where
-  pub hex-end : length s ≤ i → is_hex_of (drop i s) ≡ true
-  unfolding is_hex_of
-  hex-end h = rw (drop_of_length-le s h) refl
-
-  pub hex-one : i < length s → length s - i < 2 → is_hex_of (drop i s) ≡ false
-  unfolding is_hex_of
-  hex-one h l = rw (drop-cons s i 0 h, drop_of_length-le s {i = suc i} (omega arith)) refl
-
-  module _ (h : i + 1 < length s) where
-    pair : drop i s ≡ get_or s i 0 ∷ get_or s (i + 1) 0 ∷ drop (i + 2) s
-    pair =
-        let e : i + 1 ≡ suc i = omega arith in
-        let d : i + 2 ≡ suc (suc i) = omega arith in
-        rw (e, d) (drop-cons s i 0 (omega arith) ∙ ap (λ (cs : List ℕ). get_or s i 0 ∷ cs) (drop-cons s (suc i) 0 (omega arith)))
-
-    pub hex-bad : 16 ≤ digit_of (get_or s i 0) → is_hex_of (drop i s) ≡ false
-    unfolding is_hex_of
-    hex-bad l = rw (pair, le-ltb _ _ l) refl
-
-    module _ (l : digit_of (get_or s i 0) < 16) where
-      pub hex-bad-low : 16 ≤ digit_of (get_or s (i + 1) 0) → is_hex_of (drop i s) ≡ false
-      unfolding is_hex_of
-      hex-bad-low m = rw (pair, lt-ltb _ _ l, le-ltb _ _ m) refl
-
-      pub hex-on : digit_of (get_or s (i + 1) 0) < 16 → is_hex_of (drop i s) ≡ is_hex_of (drop (i + 2) s)
-      unfolding is_hex_of
-      hex-on m = rw (pair, lt-ltb _ _ l, lt-ltb _ _ m) refl
 
 pub length-bytes : (s : List ℕ) → length (bytes_of s) ≡ length s / 2
 unfolding bytes_of

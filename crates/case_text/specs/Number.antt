@@ -1,44 +1,38 @@
 -- Numbers and bytes as the text writes them.
-use Rattle.std.specs.Prelude.{ℕ, ◌+◌, ◌-◌, ◌*◌, ◌%◌, Bool, true, false, List, [], ◌∷◌, ◌++◌, length, drop, get_or, eqb, leb, ltb}
+use Rattle.std.specs.Prelude.{ℕ, ◌+◌, ◌*◌, ◌%◌, Bool, false, List, [], ◌∷◌, ◌++◌, length, drop, get_or, eqb, leb, ltb, Option, Some, None}
+use Rattle.std.specs.Char.{digit_value, is_ascii_hexdigit}
+use Rattle.std.specs.List.{list_all}
+use Rattle.std.specs.Str.Parse.{digits_value}
 use Rattle.qspi.specs.Choice.{pick}
-use Rattle.case_text.specs.declared.word.Number.{Number}
 
--- "hexadecimal digits in either case"; 16 where there is none
-unfoldable pub digit_of : ℕ → ℕ
-digit_of c =
-    pick (ltb c 48) 16
-    (pick (leb c 57) (c - 48) (pick (ltb c 65) 16 (pick (leb c 70) (c - 65 + 10) (pick (ltb c 97) 16 (pick (leb c 102) (c - 97 + 10) 16)))))
-
+-- digits of the radix alone
 unfoldable pub digits_in : ℕ → List ℕ → Bool
-digits_in radix [] = true
-digits_in radix (c ∷ cs) = pick (ltb (digit_of c) radix) (digits_in radix cs) false
+digits_in radix digits = list_all (λ c. ltb (digit_value c) radix) digits
 
-unfoldable pub value_from : ℕ → ℕ → List ℕ → ℕ
-value_from radix value [] = value
-value_from radix value (c ∷ cs) = value_from radix (value * radix + digit_of c) cs
+-- a number of 64 bits
+abbrev pub number_to : Bool → ℕ → Option ℕ
+number_to good value = pick good (pick (leb value 18446744073709551615) (Some value) None) None
 
--- one digit at least, and a number of 64 bits
-abbrev pub number_to : Bool → ℕ → Number
-number_to true value = pick (leb value 18446744073709551615) (Number.Value value) Number.Malformed
-number_to false value = Number.Malformed
-
-unfoldable pub number_in : ℕ → List ℕ → Number
-number_in radix digits = pick (eqb (length digits) 0) Number.Malformed (number_to (digits_in radix digits) (value_from radix 0 digits))
+-- one digit at least
+unfoldable pub number_in : ℕ → List ℕ → Option ℕ
+number_in radix digits = pick (eqb (length digits) 0) None (number_to (digits_in radix digits) (digits_value radix digits))
 
 -- "Numbers are decimal, or hexadecimal after 0x"
-unfoldable pub number_of : List ℕ → Number
+unfoldable pub number_of : List ℕ → Option ℕ
 number_of s =
     pick (ltb (length s) 2) (number_in 10 s)
     (pick (eqb (get_or s 0 0) 48) (pick (eqb (get_or s 1 0) 120) (number_in 16 (drop 2 s)) (number_in 10 s)) (number_in 10 s))
 
 -- "HEX is an even number of hexadecimal digits in either case, possibly none"
 unfoldable pub is_hex_of : List ℕ → Bool
-is_hex_of [] = true
-is_hex_of (a ∷ []) = false
-is_hex_of (a ∷ b ∷ cs) = pick (ltb (digit_of a) 16) (pick (ltb (digit_of b) 16) (is_hex_of cs) false) false
+is_hex_of s = pick (eqb (length s % 2) 0) (list_all is_ascii_hexdigit s) false
+
+-- "hexadecimal digits in either case"; what is none counts as 0
+unfoldable pub digit_of : ℕ → ℕ
+digit_of c = pick (ltb (digit_value c) 16) (digit_value c) 0
 
 unfoldable pub byte_of : ℕ → ℕ → ℕ
-byte_of high low = digit_of high % 16 * 16 + digit_of low % 16
+byte_of high low = digit_of high * 16 + digit_of low
 
 -- the bytes that digits write
 unfoldable pub bytes_of : List ℕ → List ℕ

@@ -1,24 +1,12 @@
 // What a line of the text is.
-ghost use Rattle.std.specs.Prelude.{◌≡◌};
-ghost use Rattle.case_text.specs.Line.{line_at, next_of, line_number, comment_of, done_of, data_of, error_of, setting_of, four_of, quad_at, quad_of, own_of, named_of, read_of, read_at};
+ghost use Rattle.std.specs.Prelude.{◌≡◌, ◌≤◌, length};
+ghost use Rattle.case_text.specs.Word.{count_of};
+ghost use Rattle.case_text.specs.Line.{line_at, next_of, line_number, comment_of, done_of, data_of, error_of, four_of, setting_of, quad_at, quad_of, own_of, named_of, read_of, read_at};
 
 use crate::word;
-use crate::word::Number;
 use qspi::bytes;
 
-const NEWLINE: u8 = 10;
-
-const HASH: u8 = 35;
-
-const DOT: u8 = 46;
-
-const EQUALS: u8 = 61;
-
-const EXCLAMATION: u8 = 33;
-
-const BYTE_MOST: u64 = 255;
-
-const WORD_MOST: u64 = 4294967295;
+const NEWLINE: u8 = b'\n';
 
 // A longer text is not taken.
 pub const TEXT_MOST: usize = 4194304;
@@ -36,14 +24,6 @@ pub struct Four {
     pub fourth: u64,
 }
 
-// What stands behind a setting's name.
-#[derive(Clone, Copy)]
-pub enum Setting {
-    Nothing,
-    Numbers(Four),
-    Malformed,
-}
-
 // The quad setting: four numbers as the drivers take them.
 #[derive(Clone, Copy)]
 pub struct Quad {
@@ -53,9 +33,10 @@ pub struct Quad {
     pub margin: u8,
 }
 
+// A setting is its numbers, or none.
 #[derive(Clone, Copy)]
 pub enum Line {
-    // No line is left.
+    // No line is left. A case may end there: it breaks no rule.
     End,
     // Empty, or a comment.
     Passed,
@@ -63,18 +44,16 @@ pub enum Line {
     // The digits of the bytes stand behind the first character.
     Data,
     BusError(u8),
-    NoQuad,
-    Quad(Quad),
+    Quad(Option<Quad>),
     // The caller's own device or geometry.
-    NoOwn,
-    Own(Four),
+    Own(Option<Four>),
     Call,
-    Bad,
 }
 
 // ---- lines in the text
 
 // The line that begins at a place, without its line feed.
+#[tactic(auto, unfolding(crate::specs::Line::line_at))]
 pub fn line_at(text: &[u8], at: usize) -> &[u8]
     ensures { result.now ≡ line_at text.now at }
 {
@@ -84,6 +63,7 @@ pub fn line_at(text: &[u8], at: usize) -> &[u8]
 }
 
 // Where the line after it begins. A last line needs no line feed.
+#[tactic(auto, unfolding(crate::specs::Line::next_of))]
 pub fn next_line(text: &[u8], at: usize) -> usize
     ensures { result ≡ next_of text.now at }
 {
@@ -98,193 +78,163 @@ pub fn next_line(text: &[u8], at: usize) -> usize
     text.len()
 }
 
+#[tactic(auto, unfolding(crate::specs::Word::count_of))]
+fn line_feeds(text: &[u8]) -> usize
+    ensures value { result ≡ count_of 10 text.now }
+    ensures upper_bound { result ≤ length text.now }
+{
+    text.iter().filter(|c| **c == NEWLINE).count()
+}
+
 // The number of the line that begins at a place, counted from 1.
+#[tactic(auto, unfolding(crate::specs::Line::line_number))]
 pub fn number_at(text: &[u8], at: usize) -> usize
     ensures { result ≡ line_number text.now at }
 {
-    word::count(bytes::delivered(text, at), NEWLINE) + 1
+    line_feeds(bytes::delivered(text, at)) + 1
 }
 
-// ---- replies
+// ---- replies. What follows no rule is no line.
 
-fn comment(line: &[u8]) -> Line
+#[tactic(auto, using(crate::proofs::Numbers::ascii_is), unfolding(crate::specs::Line::comment_of))]
+fn comment(line: &[u8]) -> Option<Line>
     ensures { result ≡ comment_of line.now }
 {
-    if word::ascii(line) {
-        return Line::Passed;
+    if line.is_ascii() {
+        return Some(Line::Passed);
     }
-    Line::Bad
+    None
 }
 
-fn done(line: &[u8]) -> Line
+#[tactic(auto, unfolding(crate::specs::Line::done_of))]
+fn done(line: &[u8]) -> Option<Line>
     ensures { result ≡ done_of line.now }
 {
     if line.len() == 1 {
-        return Line::Done;
+        return Some(Line::Done);
     }
-    Line::Bad
+    None
 }
 
-fn data(line: &[u8]) -> Line
+#[tactic(auto, unfolding(crate::specs::Line::data_of))]
+fn data(line: &[u8]) -> Option<Line>
     ensures { result ≡ data_of line.now }
 {
     if word::is_hex(word::behind(line, 1)) {
-        return Line::Data;
+        return Some(Line::Data);
     }
-    Line::Bad
+    None
 }
 
-fn bus_error(line: &[u8]) -> Line
+#[tactic(auto, unfolding(crate::specs::Line::error_of))]
+fn bus_error(line: &[u8]) -> Option<Line>
     ensures { result ≡ error_of line.now }
 {
-    let Number::Value(code) = word::parsed(word::behind(line, 1)) else {
-        return Line::Bad;
-    };
-    if code <= BYTE_MOST {
-        return Line::BusError(code as u8);
-    }
-    Line::Bad
+    let code = word::parsed(word::behind(line, 1))?;
+    Some(Line::BusError(u8::try_from(code).ok()?))
 }
 
 // ---- settings
 
-fn four_numbers(line: &[u8]) -> Setting
+#[tactic(auto, unfolding(crate::specs::Line::four_of))]
+fn four_numbers(line: &[u8]) -> Option<Four>
     ensures { result ≡ four_of line.now }
 {
-    let Number::Value(first) = word::parsed(word::word(line, 1)) else {
-        return Setting::Malformed;
-    };
-    let Number::Value(second) = word::parsed(word::word(line, 2)) else {
-        return Setting::Malformed;
-    };
-    let Number::Value(third) = word::parsed(word::word(line, 3)) else {
-        return Setting::Malformed;
-    };
-    let Number::Value(fourth) = word::parsed(word::word(line, 4)) else {
-        return Setting::Malformed;
-    };
-    Setting::Numbers(Four {
-        first,
-        second,
-        third,
-        fourth,
+    Some(Four {
+        first: word::parsed(word::word(line, 1))?,
+        second: word::parsed(word::word(line, 2))?,
+        third: word::parsed(word::word(line, 3))?,
+        fourth: word::parsed(word::word(line, 4))?,
     })
 }
 
-fn setting_of(line: &[u8]) -> Setting
+// What stands behind a setting's name: "none", or four numbers.
+#[tactic(auto, unfolding(crate::specs::Line::setting_of))]
+fn setting_of(line: &[u8]) -> Option<Option<Four>>
     ensures { result ≡ setting_of line.now }
 {
-    let n = word::words(line);
-    if n == WORDS_NONE {
-        if word::same(word::word(line, 1), b"none") {
-            return Setting::Nothing;
-        }
-        return Setting::Malformed;
+    match word::words(line) {
+        WORDS_NONE if word::word(line, 1) == b"none".as_slice() => Some(None),
+        WORDS_FOUR => Some(Some(four_numbers(line)?)),
+        _ => None,
     }
-    if n == WORDS_FOUR {
-        return four_numbers(line);
-    }
-    Setting::Malformed
 }
 
 // Four numbers of the widths of a quad setting.
-fn quad_of(numbers: Four) -> Line
+#[tactic(auto, unfolding(crate::specs::Line::quad_at))]
+fn quad_of(numbers: Four) -> Option<Quad>
     ensures { result ≡ quad_at numbers }
 {
-    let tclqv_ns = numbers.first;
-    let read_opcode = numbers.second;
-    let program_opcode = numbers.third;
-    let margin = numbers.fourth;
-    if WORD_MOST < tclqv_ns {
-        return Line::Bad;
-    }
-    if BYTE_MOST < read_opcode {
-        return Line::Bad;
-    }
-    if BYTE_MOST < program_opcode {
-        return Line::Bad;
-    }
-    if BYTE_MOST < margin {
-        return Line::Bad;
-    }
-    Line::Quad(Quad {
-        tclqv_ns: tclqv_ns as u32,
-        read_opcode: read_opcode as u8,
-        program_opcode: program_opcode as u8,
-        margin: margin as u8,
+    Some(Quad {
+        tclqv_ns: u32::try_from(numbers.first).ok()?,
+        read_opcode: u8::try_from(numbers.second).ok()?,
+        program_opcode: u8::try_from(numbers.third).ok()?,
+        margin: u8::try_from(numbers.fourth).ok()?,
     })
 }
 
-fn quad_setting(line: &[u8]) -> Line
+#[tactic(auto, unfolding(crate::specs::Line::quad_of))]
+fn quad_setting(line: &[u8]) -> Option<Line>
     ensures { result ≡ quad_of line.now }
 {
-    match setting_of(line) {
-        Setting::Nothing => Line::NoQuad,
-        Setting::Numbers(numbers) => quad_of(numbers),
-        Setting::Malformed => Line::Bad,
+    match setting_of(line)? {
+        None => Some(Line::Quad(None)),
+        Some(numbers) => Some(Line::Quad(Some(quad_of(numbers)?))),
     }
 }
 
-fn own_setting(line: &[u8]) -> Line
+#[tactic(auto, unfolding(crate::specs::Line::own_of))]
+fn own_setting(line: &[u8]) -> Option<Line>
     ensures { result ≡ own_of line.now }
 {
-    match setting_of(line) {
-        Setting::Nothing => Line::NoOwn,
-        Setting::Numbers(numbers) => Line::Own(numbers),
-        Setting::Malformed => Line::Bad,
-    }
+    Some(Line::Own(setting_of(line)?))
 }
 
 // ---- every line
 
 // A line that begins with a word; own is the name of the driver's own setting.
-fn named(line: &[u8], own: &[u8]) -> Line
+#[tactic(auto, unfolding(crate::specs::Line::named_of))]
+fn named(line: &[u8], own: &[u8]) -> Option<Line>
     ensures { result ≡ named_of line.now own.now }
 {
     let name = word::word(line, 0);
-    if word::same(name, b"call") {
-        return Line::Call;
+    if name == b"call".as_slice() {
+        return Some(Line::Call);
     }
-    if word::same(name, b"quad") {
+    if name == b"quad".as_slice() {
         return quad_setting(line);
     }
-    if word::same(name, own) {
+    if name == own {
         return own_setting(line);
     }
-    Line::Bad
+    None
 }
 
-pub fn read(line: &[u8], own: &[u8]) -> Line
+// A line that follows no rule is none.
+#[tactic(auto, unfolding(crate::specs::Line::read_of))]
+pub fn read(line: &[u8], own: &[u8]) -> Option<Line>
     ensures { result ≡ read_of line.now own.now }
 {
-    if line.len() == 0 {
-        return Line::Passed;
+    match line.first() {
+        None => Some(Line::Passed),
+        Some(b'#') => comment(line),
+        Some(b'.') => done(line),
+        Some(b'=') => data(line),
+        Some(b'!') => bus_error(line),
+        Some(_) => named(line, own),
     }
-    let mark = line[0];
-    if mark == HASH {
-        return comment(line);
-    }
-    if mark == DOT {
-        return done(line);
-    }
-    if mark == EQUALS {
-        return data(line);
-    }
-    if mark == EXCLAMATION {
-        return bus_error(line);
-    }
-    named(line, own)
 }
 
-// The line that begins at a place. The line with which the text grows too long is bad.
-pub fn read_at(text: &[u8], at: usize, own: &[u8]) -> Line
+// The line that begins at a place. The line with which the text grows too long follows no rule.
+#[tactic(auto, unfolding(crate::specs::Line::read_at))]
+pub fn read_at(text: &[u8], at: usize, own: &[u8]) -> Option<Line>
     ensures { result ≡ read_at text.now at own.now }
 {
     if text.len() <= at {
-        return Line::End;
+        return Some(Line::End);
     }
     if TEXT_MOST < next_line(text, at) {
-        return Line::Bad;
+        return None;
     }
     read(line_at(text, at), own)
 }

@@ -9,7 +9,6 @@ use flash_calls::given::Given;
 use qspi::bus;
 use qspi::bus::Reply;
 use spi_flash::error::FlashError;
-use trace_turns::place;
 use trace_turns::place::{Mode, Place};
 use trace_words::heard::Heard;
 
@@ -25,6 +24,7 @@ pub enum Hears {
 }
 
 // A reply of more bytes than there is room for fits no action.
+#[tactic(auto, unfolding(crate::specs::Hears::data_hears))]
 fn data_reply(line: &[u8], next: usize, reply: &mut [u8]) -> Hears
     ensures { hears_to result reply.new ≡ data_hears line.now next reply.old }
 {
@@ -43,6 +43,7 @@ fn data_reply(line: &[u8], next: usize, reply: &mut [u8]) -> Hears
 }
 
 // The reply in the next line.
+#[tactic(auto, unfolding(crate::specs::Hears::replied_of))]
 fn replied(
     place: Place,
     settings: Settings,
@@ -54,8 +55,11 @@ fn replied(
 {
     let from = place.at;
     let next = line::next_line(text, from);
-    match heard::heard_at(text, from, settings, room_len) {
-        Heard::Passed => Hears::Stay(place::read_to(place, next)),
+    let Some(heard) = heard::heard_at(text, from, settings, room_len) else {
+        return Hears::Stay(place.in_mode(Mode::Bad));
+    };
+    match heard {
+        Heard::Passed => Hears::Stay(place.read_to(next)),
         Heard::Reply(given) => Hears::Answer {
             reply: given,
             n: 0,
@@ -66,11 +70,11 @@ fn replied(
             error: FlashError::TapeSpent,
             next: from,
         },
-        Heard::Bad => Hears::Stay(place::in_mode(place, Mode::Bad)),
     }
 }
 
 // Select and delay are answered by "done" without a line.
+#[tactic(auto, unfolding(crate::specs::Hears::awaited_of))]
 pub fn awaited(
     given: Given,
     place: Place,
@@ -82,7 +86,7 @@ pub fn awaited(
     ensures { hears_to result reply.new ≡ awaited_of given place settings text.now room_len reply.old }
 {
     let Given::Act(action) = given else {
-        return Hears::Stay(place::in_mode(place, Mode::Giving));
+        return Hears::Stay(place.in_mode(Mode::Giving));
     };
     if bus::on_bus(action) {
         return replied(place, settings, text, room_len, reply);

@@ -4,6 +4,7 @@ ghost use Rattle.dialect.specs.Settings.{none_of, settled_by};
 
 use case_text::line::Line;
 use flash_calls::call::Kind;
+use flash_words::words;
 use spi_nand::config::SpiNandConfig;
 use spi_nor::config::SpiNorConfig;
 
@@ -28,7 +29,11 @@ pub fn after(settings: Settings, line: Line) -> Settings
     ensures { result ≡ settled_by settings line }
 {
     match settings {
-        Settings::Nor(config) => Settings::Nor(nor_words::setting::config_at(config, line)),
-        Settings::Nand(config) => Settings::Nand(nand_words::setting::config_at(config, line)),
+        Settings::Nor(config) => Settings::Nor(words::config_at::<nor_words::name::Name>(
+            config, line,
+        )),
+        Settings::Nand(config) => Settings::Nand(words::config_at::<nand_words::name::Name>(
+            config, line,
+        )),
     }
 }

@@ -6,9 +6,11 @@ use crate::settings::Settings;
 use case_text::line;
 use case_text::line::Line;
 use flash_words::asked::Asked;
+use flash_words::words;
 
 // The line that begins at a place.
-pub fn line_of(text: &[u8], at: usize, settings: Settings) -> Line
+#[tactic(auto, unfolding(crate::specs::Words::line_of))]
+pub fn line_of(text: &[u8], at: usize, settings: Settings) -> Option<Line>
     ensures { result ≡ line_of text.now at settings }
 {
     match settings {
@@ -18,11 +20,15 @@ pub fn line_of(text: &[u8], at: usize, settings: Settings) -> Line
 }
 
 // The call that a line asks for, with the room for what it lends.
-pub fn asked_by(line: &[u8], settings: Settings, room_len: usize) -> Asked
+pub fn asked_by(line: &[u8], settings: Settings, room_len: usize) -> Option<Asked>
     ensures { result ≡ asked_of line.now settings room_len }
 {
     match settings {
-        Settings::Nor(config) => return nor_words::call::asked_by(line, config, room_len),
-        Settings::Nand(config) => return nand_words::call::asked_by(line, config, room_len),
+        Settings::Nor(config) => {
+            words::asked_by::<nor_words::name::Name>(line, config, room_len)
+        }
+        Settings::Nand(config) => {
+            words::asked_by::<nand_words::name::Name>(line, config, room_len)
+        }
     }
 }

@@ -4,22 +4,27 @@ use spi_flash::error::{FlashError, NorFlashErrorKind};
 use std::io;
 
 pub(crate) fn all(rt: &impl Print) -> io::Result<()> {
-    error(rt, "spi", FlashError::Spi(255))?;
-    error(rt, "timeout", FlashError::Timeout)?;
-    error(rt, "not_aligned", FlashError::NotAligned)?;
-    error(rt, "invalid_length", FlashError::InvalidLength)?;
-    error(rt, "out_of_bounds", FlashError::OutOfBounds)?;
-    error(rt, "verify_failed", FlashError::VerifyFailed)?;
-    error(rt, "write_enable_failed", FlashError::WriteEnableFailed)?;
-    error(rt, "uncorrectable_ecc", FlashError::UncorrectableEcc)?;
-    error(rt, "erase_failed", FlashError::EraseFailed)?;
-    error(rt, "program_failed", FlashError::ProgramFailed)?;
-    error(rt, "not_supported", FlashError::NotSupported)?;
-    error(rt, "invalid_geometry", FlashError::InvalidGeometry)?;
-    error(rt, "out_of_turn", FlashError::OutOfTurn)?;
-    error(rt, "misfit", FlashError::Misfit)?;
-    error(rt, "malformed_tape", FlashError::MalformedTape)?;
-    error(rt, "tape_spent", FlashError::TapeSpent)
+    for (name, e) in [
+        ("spi", FlashError::Spi(255)),
+        ("timeout", FlashError::Timeout),
+        ("not_aligned", FlashError::NotAligned),
+        ("invalid_length", FlashError::InvalidLength),
+        ("out_of_bounds", FlashError::OutOfBounds),
+        ("verify_failed", FlashError::VerifyFailed),
+        ("write_enable_failed", FlashError::WriteEnableFailed),
+        ("uncorrectable_ecc", FlashError::UncorrectableEcc),
+        ("erase_failed", FlashError::EraseFailed),
+        ("program_failed", FlashError::ProgramFailed),
+        ("not_supported", FlashError::NotSupported),
+        ("invalid_geometry", FlashError::InvalidGeometry),
+        ("out_of_turn", FlashError::OutOfTurn),
+        ("misfit", FlashError::Misfit),
+        ("malformed_tape", FlashError::MalformedTape),
+        ("tape_spent", FlashError::TapeSpent),
+    ] {
+        error(rt, name, e)?;
+    }
+    Ok(())
 }
 
 fn error(rt: &impl Print, name: &str, e: FlashError) -> io::Result<()> {

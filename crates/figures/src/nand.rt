@@ -7,13 +7,18 @@ use std::io;
 
 // The known ids, then some that fall back: a W25N02KV's by its datasheet, another maker's, and zeros.
 pub(crate) fn ids(rt: &impl Print) -> io::Result<()> {
-    id(rt, 0xEF, 0xAA, 0x21)?;
-    id(rt, 0xEF, 0xAB, 0x21)?;
-    id(rt, 0xC8, 0xD1, 0x48)?;
-    id(rt, 0xC8, 0xF1, 0x48)?;
-    id(rt, 0xEF, 0xAA, 0x22)?;
-    id(rt, 0xC8, 0xAA, 0x21)?;
-    id(rt, 0x00, 0x00, 0x00)
+    for (manufacturer, high, low) in [
+        (0xEF, 0xAA, 0x21),
+        (0xEF, 0xAB, 0x21),
+        (0xC8, 0xD1, 0x48),
+        (0xC8, 0xF1, 0x48),
+        (0xEF, 0xAA, 0x22),
+        (0xC8, 0xAA, 0x21),
+        (0x00, 0x00, 0x00),
+    ] {
+        id(rt, manufacturer, high, low)?;
+    }
+    Ok(())
 }
 
 fn id(rt: &impl Print, manufacturer: u8, high: u8, low: u8) -> io::Result<()> {
@@ -62,20 +67,25 @@ pub(crate) fn waits(rt: &impl Print) -> io::Result<()> {
 
 // On each bound, and one past it.
 pub(crate) fn bounds(rt: &impl Print) -> io::Result<()> {
-    bound(rt, 1, 0, 1, 1)?;
-    bound(rt, 0, 0, 1, 1)?;
-    bound(rt, 1, 0, 0, 1)?;
-    bound(rt, 1, 0, 1, 0)?;
-    bound(rt, 65_535, 0, 1, 1)?;
-    bound(rt, 65_536, 0, 1, 1)?;
-    bound(rt, 1, 65_534, 1, 1)?;
-    bound(rt, 1, 65_535, 1, 1)?;
-    bound(rt, 1, 0, 4_096, 4_096)?;
-    bound(rt, 1, 0, 16_777_216, 1)?;
-    bound(rt, 1, 0, 1, 16_777_216)?;
-    bound(rt, 1, 0, 1, 16_777_217)?;
-    bound(rt, 1, 0, 16_777_217, 1)?;
-    bound(rt, 1, 0, usize::MAX, usize::MAX)
+    for (page_size, oob_size, pages_per_block, block_count) in [
+        (1, 0, 1, 1),
+        (0, 0, 1, 1),
+        (1, 0, 0, 1),
+        (1, 0, 1, 0),
+        (65_535, 0, 1, 1),
+        (65_536, 0, 1, 1),
+        (1, 65_534, 1, 1),
+        (1, 65_535, 1, 1),
+        (1, 0, 4_096, 4_096),
+        (1, 0, 16_777_216, 1),
+        (1, 0, 1, 16_777_216),
+        (1, 0, 1, 16_777_217),
+        (1, 0, 16_777_217, 1),
+        (1, 0, usize::MAX, usize::MAX),
+    ] {
+        bound(rt, page_size, oob_size, pages_per_block, block_count)?;
+    }
+    Ok(())
 }
 
 fn bound(

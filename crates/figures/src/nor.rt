@@ -1,21 +1,26 @@
 // The NOR's ids, capacity codes, geometries and waits.
 use crate::line;
-use spi_nor::config::{CapacityBytes, NorDeviceInfo, NorJedecId};
+use spi_nor::config::{NorDeviceInfo, NorJedecId};
 use spi_nor::opcode;
 use spi_nor::opcode::Operation;
 use std::io;
 
 // The known ids, then some that fall back: on a capacity code, and beside the codes.
 pub(crate) fn ids(rt: &impl Print) -> io::Result<()> {
-    id(rt, 0xEF, 0x40, 0x17)?;
-    id(rt, 0xEF, 0x40, 0x18)?;
-    id(rt, 0xC8, 0x40, 0x18)?;
-    id(rt, 0xC8, 0x40, 0x17)?;
-    id(rt, 0xC2, 0x20, 0x16)?;
-    id(rt, 0xC2, 0x20, 0x10)?;
-    id(rt, 0xC2, 0x20, 0x0F)?;
-    id(rt, 0xC2, 0x20, 0x19)?;
-    id(rt, 0x00, 0x00, 0x00)
+    for (manufacturer, memory_type, capacity) in [
+        (0xEF, 0x40, 0x17),
+        (0xEF, 0x40, 0x18),
+        (0xC8, 0x40, 0x18),
+        (0xC8, 0x40, 0x17),
+        (0xC2, 0x20, 0x16),
+        (0xC2, 0x20, 0x10),
+        (0xC2, 0x20, 0x0F),
+        (0xC2, 0x20, 0x19),
+        (0x00, 0x00, 0x00),
+    ] {
+        id(rt, manufacturer, memory_type, capacity)?;
+    }
+    Ok(())
 }
 
 fn id(rt: &impl Print, manufacturer: u8, memory_type: u8, capacity: u8) -> io::Result<()> {
@@ -42,10 +47,10 @@ fn device(rt: &impl Print, d: NorDeviceInfo) -> io::Result<()> {
 }
 
 pub(crate) fn codes(rt: &impl Print) -> io::Result<()> {
-    code(rt, 0x0F)?;
-    code(rt, 0x10)?;
-    code(rt, 0x18)?;
-    code(rt, 0x19)
+    for capacity in [0x0F, 0x10, 0x18, 0x19] {
+        code(rt, capacity)?;
+    }
+    Ok(())
 }
 
 fn code(rt: &impl Print, capacity: u8) -> io::Result<()> {
@@ -56,10 +61,9 @@ fn code(rt: &impl Print, capacity: u8) -> io::Result<()> {
     };
     line::name(rt, "nor_code")?;
     line::byte(rt, capacity)?;
-    let bytes = id.capacity_bytes();
-    match bytes {
-        CapacityBytes::Known(n) => line::size(rt, n)?,
-        CapacityBytes::Unknown => line::word(rt, "unknown")?,
+    match id.capacity_bytes() {
+        Some(n) => line::size(rt, n)?,
+        None => line::word(rt, "unknown")?,
     }
     line::end(rt)
 }
@@ -73,20 +77,25 @@ pub(crate) fn waits(rt: &impl Print) -> io::Result<()> {
 
 // On each bound, and one past it.
 pub(crate) fn bounds(rt: &impl Print) -> io::Result<()> {
-    bound(rt, 0, 4_096, 65_536, 256)?;
-    bound(rt, 16_777_216, 4_096, 65_536, 256)?;
-    bound(rt, 16_777_217, 4_096, 65_536, 256)?;
-    bound(rt, 16_777_216, 4_096, 65_536, 1)?;
-    bound(rt, 16_777_216, 4_096, 65_536, 0)?;
-    bound(rt, 16_777_216, 4_096, 65_536, 65_536)?;
-    bound(rt, 16_777_216, 4_096, 65_536, 65_537)?;
-    bound(rt, 16_777_216, 1, 65_536, 256)?;
-    bound(rt, 16_777_216, 0, 65_536, 256)?;
-    bound(rt, 16_777_216, 4_096, 4_096, 256)?;
-    bound(rt, 16_777_216, 4_096, 0, 256)?;
-    bound(rt, 16_777_216, 4_096, 65_537, 256)?;
-    bound(rt, 16_777_216, 1, 16_777_216, 256)?;
-    bound(rt, 16_777_216, 1, 16_777_217, 256)
+    for (capacity, sector_size, block_size, page_size) in [
+        (0, 4_096, 65_536, 256),
+        (16_777_216, 4_096, 65_536, 256),
+        (16_777_217, 4_096, 65_536, 256),
+        (16_777_216, 4_096, 65_536, 1),
+        (16_777_216, 4_096, 65_536, 0),
+        (16_777_216, 4_096, 65_536, 65_536),
+        (16_777_216, 4_096, 65_536, 65_537),
+        (16_777_216, 1, 65_536, 256),
+        (16_777_216, 0, 65_536, 256),
+        (16_777_216, 4_096, 4_096, 256),
+        (16_777_216, 4_096, 0, 256),
+        (16_777_216, 4_096, 65_537, 256),
+        (16_777_216, 1, 16_777_216, 256),
+        (16_777_216, 1, 16_777_217, 256),
+    ] {
+        bound(rt, capacity, sector_size, block_size, page_size)?;
+    }
+    Ok(())
 }
 
 fn bound(

@@ -2,4 +2,5 @@
 #![tactic(auto)]
 
 pub mod drive;
+pub mod side;
 pub mod state;

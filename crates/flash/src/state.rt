@@ -1,7 +1,7 @@
 // Either driver's state, and what a step comes to.
 use flash_calls::given::Given;
-use nand_driver::state::SpiNandFlash;
-use nor_driver::state::SpiNorFlash;
+use nand_driver::part::SpiNandFlash;
+use nor_driver::part::SpiNorFlash;
 
 #[derive(Clone, Copy)]
 pub enum Flash {

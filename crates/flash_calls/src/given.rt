@@ -2,8 +2,7 @@
 ghost use Rattle.std.specs.Prelude.{◌≡◌, get_or, length};
 ghost use Rattle.flash_calls.specs.Answer.{answer_values};
 
-use qspi::bus::Action;
-use spi_flash::error::FlashError;
+use machine::state;
 
 // What a call that succeeds answers.
 #[derive(Clone, Copy)]
@@ -12,16 +11,7 @@ pub enum Answer {
     Nand(nand_answers::answer::Answer),
 }
 
-#[derive(Clone, Copy)]
-pub enum Given {
-    Act(Action),
-    // The call has succeeded.
-    Ended(Answer),
-    // A call that had begun has failed.
-    Failed(FlashError),
-    // Turned away: nothing has changed.
-    Refused(FlashError),
-}
+pub type Given = state::Given<Answer>;
 
 impl Answer {
     pub fn value_count(self) -> usize

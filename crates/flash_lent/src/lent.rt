@@ -14,6 +14,7 @@ use spi_flash::loan::Takes;
 use trace_words::loan;
 
 // Hands a call to the driver, its loan being laid.
+#[tactic(auto, unfolding(crate::specs::Lent::begun_over))]
 fn begin<'a>(flash: Flash, call: Call, takes: Takes, scratch: &'a [u8], room: &'a [u8]) -> Stepped
     ensures { stepped_to result scratch.now room.now ≡ begun_over flash call takes scratch.now room.now }
 {
@@ -28,15 +29,15 @@ fn begin<'a>(flash: Flash, call: Call, takes: Takes, scratch: &'a [u8], room: &'
 
 // ---- a reply to the action that is out
 
+#[tactic(auto, unfolding(crate::specs::Lent::none_over))]
 fn with_none(flash: Flash, reply: Reply, bytes: &[u8], scratch: &mut [u8]) -> Stepped
     ensures { stepped_to result scratch.new [] ≡ none_over flash reply bytes.now scratch.old [] }
 {
-    let mut buffer = [0u8; 0];
-    let data = [0u8; 0];
-    drive::step(flash, reply, bytes, scratch, &mut buffer, &data)
+    drive::step(flash, reply, bytes, scratch, &mut [0u8; 0], &[0u8; 0])
 }
 
 // A room that is shorter than the buffer that was lent is a misfit.
+#[tactic(auto, unfolding(crate::specs::Lent::buffer_over))]
 fn with_buffer(
     flash: Flash,
     reply: Reply,
@@ -47,13 +48,13 @@ fn with_buffer(
 ) -> Stepped
     ensures { stepped_to result scratch.new room.new ≡ buffer_over flash reply bytes.now n scratch.old room.old }
 {
-    let data = [0u8; 0];
     if n <= room.len() {
-        return drive::step(flash, reply, bytes, scratch, &mut room[..n], &data);
+        return drive::step(flash, reply, bytes, scratch, &mut room[..n], &[0u8; 0]);
     }
     drive::refused(flash, FlashError::Misfit)
 }
 
+#[tactic(auto, unfolding(crate::specs::Lent::data_over))]
 fn with_data(
     flash: Flash,
     reply: Reply,
@@ -64,18 +65,18 @@ fn with_data(
 ) -> Stepped
     ensures { stepped_to result scratch.new room.now ≡ data_over flash reply bytes.now n scratch.old room.now }
 {
-    let mut buffer = [0u8; 0];
     drive::step(
         flash,
         reply,
         bytes,
         scratch,
-        &mut buffer,
+        &mut [0u8; 0],
         bytes::delivered(room, n),
     )
 }
 
 // Hands a reply to the driver, with what its call takes.
+#[tactic(auto, unfolding(crate::specs::Lent::answered_over))]
 fn answered(
     flash: Flash,
     reply: Reply,
@@ -87,14 +88,15 @@ fn answered(
     ensures { stepped_to result scratch.new room.new ≡ answered_over flash reply bytes.now takes scratch.old room.old }
 {
     match takes {
-        Takes::Nothing => return with_none(flash, reply, bytes, scratch),
-        Takes::Buffer(n) => return with_buffer(flash, reply, bytes, n, scratch, room),
-        Takes::Data(n) => return with_data(flash, reply, bytes, n, scratch, room),
+        Takes::Nothing => with_none(flash, reply, bytes, scratch),
+        Takes::Buffer(n) => with_buffer(flash, reply, bytes, n, scratch, room),
+        Takes::Data(n) => with_data(flash, reply, bytes, n, scratch, room),
     }
 }
 
 // ---- whatever a turn asks
 
+#[tactic(auto, unfolding(crate::specs::Lent::asked_over))]
 pub fn asked(
     stepped: Stepped,
     ask: Ask,
@@ -106,13 +108,13 @@ pub fn asked(
 {
     let flash = stepped.flash;
     match ask {
-        Ask::Nothing => return stepped,
-        Ask::Begin { call, takes } => return begin(flash, call, takes, scratch, room),
+        Ask::Nothing => stepped,
+        Ask::Begin { call, takes } => begin(flash, call, takes, scratch, room),
         Ask::Answer {
             reply: by,
             n,
             takes,
-        } => return answered(flash, by, bytes::delivered(reply, n), takes, scratch, room),
-        Ask::Stop(error) => return drive::refused(flash, error),
+        } => answered(flash, by, bytes::delivered(reply, n), takes, scratch, room),
+        Ask::Stop(error) => drive::refused(flash, error),
     }
 }

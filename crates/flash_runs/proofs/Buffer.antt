@@ -1,4 +1,5 @@
 -- The caller's buffer over every run of the machine: only the places of the bytes read so far change, and they hold those bytes.
+use Rattle.std.specs.Prelude.{Ok, Err}
 use Prim.Native.Nat.{ℕ, ◌+◌}
 use native.Mathlib.Nat.{add-zero}
 use mathlib.Core.Bool.{Bool, true}
@@ -10,12 +11,11 @@ use borrow.Author.Tests.{eqb-true}
 use Rattle.qspi.specs.Bus.{fits_of}
 use Rattle.qspi.specs.Command.{scratch_least}
 use Rattle.qspi.specs.Shown.{shown_of}
-use Rattle.frames.specs.Frame.{first_of, action_of, taken_in, frame_at, advanced_of, gave, given_scratch, exchange_of}
+use Rattle.frames.specs.Frame.{Outcome, first_of, action_of, taken_in, frame_at, advanced_of, gave, given_scratch, exchange_of}
 use Rattle.frames.proofs.Sent.{shown-bytes}
 use Rattle.qspi.specs.declared.bus.Reply.{Reply}
 use Rattle.qspi.specs.declared.transfer.Transfer.{Transfer}
 use Rattle.frames.specs.declared.frame.Stage.{Stage}
-use Rattle.frames.specs.declared.frame.Outcome.{Outcome}
 use Rattle.frames.specs.declared.frame.Advanced.{Advanced}
 use Rattle.frames.specs.declared.frame.Frame.{Frame}
 use Rattle.spi_flash.specs.declared.loan.Takes.{Takes}
@@ -56,12 +56,12 @@ module _ (C : Type 0) {S A : Type 0} (Valid : S → Type 0) (next : S → Outcom
 
   -- what a transfer leads to
   pub fills-next : (s : S) (n : ℕ) (o : Outcome) → Valid s → FillsOn reads len n (meaning s) o → Fills reads len n (tree meaning (next s o))
-  fills-next s n (Outcome.Value v) w h = subst (Fills reads len n) (sim.on_value s v w) (h v)
-  fills-next s n (Outcome.Failed code) w h = rw (sim.on_failure s code) tt
+  fills-next s n (Ok v) w h = subst (Fills reads len n) (sim.on_value s v w) (h v)
+  fills-next s n (Err error) w h = rw (sim.on_failure s error) tt
 
   pub keeps-next : (s : S) (o : Outcome) → Valid s → Onward Valid (next s o)
-  keeps-next s (Outcome.Value v) w = sim.keeps s v w
-  keeps-next s (Outcome.Failed code) w = rw (sim.on_failure s code) tt
+  keeps-next s (Ok v) w = sim.keeps s v w
+  keeps-next s (Err error) w = rw (sim.on_failure s error) tt
 
   -- ---- only the places of the bytes read so far
 
@@ -84,7 +84,7 @@ module _ (C : Type 0) {S A : Type 0} (Valid : S → Type 0) (next : S → Outcom
   settled-changes : (es : List (Event C)) → Changes es → (d : Decision S A) (l : Lent) (mine : Bool) (n : ℕ) (bytes buffer : List ℕ) → Onward Valid d →
       Fills reads len (n + length bytes) (tree meaning d) → SameFrom (n + length bytes) l.buffer buffer → ChangesBy es mine n bytes buffer (settle k d l)
   unfolding first_of
-  settled-changes es ih (more t s) l mine n bytes buffer w h same = (same, ih s t Stage.Start (Outcome.Value 0) _ _ w (first-filling reads len _ h))
+  settled-changes es ih (more t s) l mine n bytes buffer w h same = (same, ih s t Stage.Start (Ok 0) _ _ w (first-filling reads len _ h))
   settled-changes es ih (well a) l mine n bytes buffer w h same = (same, rest-changes es mine _)
   settled-changes es ih (bad e) l mine n bytes buffer w h same = (same, rest-changes es mine _)
 
@@ -111,7 +111,7 @@ module _ (C : Type 0) {S A : Type 0} (Valid : S → Type 0) (next : S → Outcom
       HoldsBy es mine old before bytes buffer from (settle k d l)
   unfolding first_of
   settled-holds es ih (more t s) l from mine old before bytes buffer w h holds still =
-      (holds still.0, ih s t Stage.Start (Outcome.Value 0) _ l.buffer (before ++ bytes) old w (first-filling reads len _ h) (holds still.0) still.1)
+      (holds still.0, ih s t Stage.Start (Ok 0) _ l.buffer (before ++ bytes) old w (first-filling reads len _ h) (holds still.0) still.1)
   settled-holds es ih (well a) l from mine old before bytes buffer w h holds still = (holds still.0, rest-holds es mine old _)
   settled-holds es ih (bad e) l from mine old before bytes buffer w h holds still = (holds still.0, rest-holds es mine old _)
 

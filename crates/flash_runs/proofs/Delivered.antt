@@ -8,9 +8,8 @@ use mathlib.Core.List.{List, [], ◌∷◌, ◌++◌}
 use lib.ListN.{length, length-append}
 use Rattle.qspi.specs.Bus.{fits_of}
 use Rattle.qspi.specs.Shown.{shown_of}
-use Rattle.frames.specs.Frame.{first_of, action_of, delivered_by, advanced_of, given_scratch}
+use Rattle.frames.specs.Frame.{Outcome, first_of, action_of, delivered_by, advanced_of, given_scratch}
 use Rattle.qspi.specs.declared.bus.Reply.{Reply}
-use Rattle.frames.specs.declared.frame.Outcome.{Outcome}
 use Rattle.frames.specs.declared.frame.Advanced.{Advanced}
 use Rattle.frames.specs.declared.frame.Frame.{Frame}
 use Rattle.spi_flash.specs.Settling as Settling

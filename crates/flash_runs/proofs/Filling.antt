@@ -1,4 +1,5 @@
 -- A program that reads into the caller's buffer, place after place, and what one reply does to it.
+use Rattle.std.specs.Prelude.{Ok, Err}
 use Prim.Native.Nat.{ℕ, ◌+◌, ◌-◌, ◌≤◌}
 use native.Mathlib.Omega.{arith}
 use native.Mathlib.Nat.{add-zero}
@@ -11,14 +12,13 @@ use borrow.Author.Tests.{eqb-true, le-leb}
 use Rattle.qspi.specs.Bus.{awaits_of, fits_at}
 use Rattle.qspi.specs.Bytes.{delivered_of}
 use Rattle.qspi.specs.Command.{command_bytes}
-use Rattle.frames.specs.Frame.{action_at, start_action, sink_of, frame_at, taken_at, delivered_at, advanced_at}
+use Rattle.frames.specs.Frame.{Outcome, action_at, start_action, sink_of, frame_at, taken_at, delivered_at, advanced_at}
 use Rattle.frames.specs.ShownBytes.{shown_at}
 use Rattle.qspi.specs.declared.bus.Reply.{Reply}
 use Rattle.qspi.specs.declared.transfer.Sink.{Sink}
 use Rattle.qspi.specs.declared.transfer.Body.{Body}
 use Rattle.qspi.specs.declared.transfer.Transfer.{Transfer}
 use Rattle.frames.specs.declared.frame.Stage.{Stage}
-use Rattle.frames.specs.declared.frame.Outcome.{Outcome}
 use Rattle.frames.specs.declared.frame.Advanced.{Advanced}
 use Rattle.frames.specs.declared.frame.Frame.{Frame}
 use Rattle.spi_flash.specs.Prog.{Prog, ret, fail, ask}
@@ -76,8 +76,8 @@ module _ (reads : List ℕ → Bool) (len : ℕ) where
 
   -- with n bytes read
   abbrev pub FillsOn : {A : Type 0} → ℕ → (ℕ → Prog A) → Outcome → Type 0
-  FillsOn n k (Outcome.Value v) = (w : ℕ) → Fills n (k w)
-  FillsOn n k (Outcome.Failed code) = Unit {0}
+  FillsOn n k (Ok v) = (w : ℕ) → Fills n (k w)
+  FillsOn n k (Err error) = Unit {0}
 
   abbrev FillsAt : {A : Type 0} → ℕ → (ℕ → Prog A) → Stage → Transfer → Outcome → Type 0
   FillsAt n k Stage.Start t o = Fills n (ask t k)
@@ -111,7 +111,7 @@ module _ (reads : List ℕ → Bool) (len : ℕ) where
     pub fills : FillsAt n k stage t o
 
   -- a transfer that begins
-  pub first-filling : {A : Type 0} {n : ℕ} {k : ℕ → Prog A} {t : Transfer} (mine : Bool) → Fills n (ask t k) → Filling n mine k Stage.Start t (Outcome.Value 0)
+  pub first-filling : {A : Type 0} {n : ℕ} {k : ℕ → Prog A} {t : Transfer} (mine : Bool) → Fills n (ask t k) → Filling n mine k Stage.Start t (Ok 0)
   first-filling mine h = record { reached = tt; whose = tt; fills = h }
 
   abbrev pub FillsNext : {A : Type 0} → ℕ → Bool → List ℕ → (ℕ → Prog A) → Advanced → Type 0
@@ -172,8 +172,8 @@ module _ (reads : List ℕ → Bool) (len : ℕ) where
 
     -- whatever has come of the transfer so far
     fills-on : (x : Outcome) → ((v : ℕ) → Fills n (k v)) → FillsOn n k x
-    fills-on (Outcome.Value v) h = h
-    fills-on (Outcome.Failed code) h = tt
+    fills-on (Ok v) h = h
+    fills-on (Err error) h = tt
 
     fed-start : (t : Transfer) → Fills n (ask t k) → Fed n mine k Stage.Start t o Reply.Done bytes
     fed-start Transfer.Raise h = quiet (λ given. fills-on o h)

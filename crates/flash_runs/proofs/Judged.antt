@@ -6,6 +6,7 @@ use mathlib.Core.Path.{◌≡◌, refl, ap, sym, ◌∙◌, subst}
 use mathlib.Core.List.{List, [], ◌∷◌}
 use lib.ListN.{length}
 use lib.Dec.{ltb}
+use Rattle.std.specs.Prelude.{Result, Ok, Err}
 use Rattle.qspi.specs.Bus.{awaits_of, fits_at, fits_of}
 use Rattle.qspi.specs.Choice.{pick}
 use Rattle.qspi.specs.Command.{scratch_least}
@@ -21,7 +22,6 @@ use Rattle.spi_flash.specs.Loan.{Lent, ready_for, exchange_for}
 use Rattle.spi_flash.specs.Run as Run
 use Rattle.spi_flash.specs.Run.{Event, reply, call, System, goes_on, run_of, begun_with, state_after}
 use Rattle.spi_flash.specs.Machine.{lent_as}
-use Rattle.spi_flash.specs.declared.entry.Entry.{Entry}
 use Rattle.spi_flash.specs.declared.error.FlashError.{FlashError}
 use Rattle.spi_flash.specs.declared.loan.Takes.{Takes}
 use Rattle.qspi.proofs.Cases.{by_cases}
@@ -148,9 +148,9 @@ module _ {S P A C : Type 0} (parts : Parts S P A C) (in_bounds : S → Bool) (ta
     picked true x y h k = h
     picked false x y h k = k
 
-    entered-awaiting : (entry : Entry) (x : Stepped S P A) → AwaitingBy none (left_with plain x l) → AwaitingBy none (left_with plain (Beginning.entered plain (at setup built delivered idle) entry x) l)
-    entered-awaiting Entry.Open x h = h
-    entered-awaiting (Entry.Shut error) x h = tt
+    entered-awaiting : (entry : Result (Unit {0}) FlashError) (x : Stepped S P A) → AwaitingBy none (left_with plain x l) → AwaitingBy none (left_with plain (Beginning.entered plain (at setup built delivered idle) entry x) l)
+    entered-awaiting (Ok _) x h = h
+    entered-awaiting (Err error) x h = tt
 
     opened-awaiting : (own : Takes) (x : Then S P A) → own ≡ takes → AwaitingBy none (opened (at setup built delivered idle) own x l)
     unfolding Beginning.opened
@@ -225,7 +225,7 @@ module _ {F C S A : Type 0} {driver : Driver F C S A} (known : Known driver) whe
         RefusedAs (pick b (pick short (some FlashError.Misfit) (pick inside none (some FlashError.InvalidGeometry))) (some FlashError.OutOfTurn))
         (left_with plain
         (Beginning.entered plain there
-        (pick b (pick short (Entry.Shut FlashError.Misfit) (pick inside Entry.Open (Entry.Shut FlashError.InvalidGeometry))) (Entry.Shut FlashError.OutOfTurn)) x)
+        (pick b (pick short (Err FlashError.Misfit) (pick inside (Ok tt) (Err FlashError.InvalidGeometry))) (Err FlashError.OutOfTurn)) x)
         l).given
     judged-entry true true inside x = refl
     judged-entry true false true x = tt

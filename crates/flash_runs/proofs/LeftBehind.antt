@@ -8,9 +8,8 @@ use mathlib.Core.List.{List, [], ◌∷◌}
 use lib.ListN.{length}
 use Rattle.qspi.specs.Choice.{pick}
 use Rattle.qspi.specs.Command.{scratch_least}
-use Rattle.frames.specs.Frame.{first_of}
+use Rattle.frames.specs.Frame.{Outcome, first_of}
 use Rattle.qspi.specs.declared.transfer.Transfer.{Transfer}
-use Rattle.frames.specs.declared.frame.Outcome.{Outcome}
 use Rattle.spi_flash.specs.Settling as Settling
 use Rattle.spi_flash.specs.Loan.{Lent}
 use Rattle.spi_flash.specs.Run.{Event, reply, call, System, goes_on, at_once, call_of, state_after}

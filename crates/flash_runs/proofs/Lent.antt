@@ -1,4 +1,5 @@
 -- What is lent and what is selected, over every run.
+use Rattle.std.specs.Prelude.{Ok}
 use Prim.Native.Nat.{ℕ}
 use native.Mathlib.Nat.{zero-add}
 use mathlib.Core.Bool.{Bool, true, false}
@@ -8,7 +9,6 @@ use mathlib.Core.List.{List, []}
 use lib.ListN.{length, take}
 use Rattle.frames.specs.Frame.{first_of, action_of}
 use Rattle.qspi.specs.Shown.{shown_of}
-use Rattle.frames.specs.declared.frame.Outcome.{Outcome}
 use Rattle.frames.specs.declared.frame.Stage.{Stage}
 use Rattle.spi_flash.specs.Settling as Settling
 use Rattle.spi_flash.specs.Loan.{Lent}
@@ -98,7 +98,7 @@ module _ {F C S A : Type 0} {driver : Driver F C S A} (known : Known driver) (fl
       opened-changes =
           rw (opens-run known flash o es, filled.0) (
             record { size = refl; kept = refl },
-            changes-read C known.Valid (decide_next parts) meaning supplies.simulates reads len es o.at o.first Stage.Start (Outcome.Value 0) _ 0 o.valid (first-filling reads len _ fills_first),
+            changes-read C known.Valid (decide_next parts) meaning supplies.simulates reads len es o.at o.first Stage.Start (Ok 0) _ 0 o.valid (first-filling reads len _ fills_first),
           )
 
       opened-holds : Undisturbed l.buffer (run_at driver flash c l es) → HoldsRead reads false l.buffer [] (run_at driver flash c l es)
@@ -107,7 +107,7 @@ module _ {F C S A : Type 0} {driver : Driver F C S A} (known : Known driver) (fl
           let still = rw (opens-run known flash o es, filled.0) at h in
           rw (opens-run known flash o es, filled.0) (
             refl,
-            holds_read C known.Valid (decide_next parts) meaning supplies.simulates reads len es o.at o.first Stage.Start (Outcome.Value 0) _ l.buffer [] l.buffer o.valid (first-filling reads len _ fills_first) refl still.1,
+            holds_read C known.Valid (decide_next parts) meaning supplies.simulates reads len es o.at o.first Stage.Start (Ok 0) _ l.buffer [] l.buffer o.valid (first-filling reads len _ fills_first) refl still.1,
           )
 
       opened-delivers : known.is.count (flash_after driver flash c l es) ≡ length (bytes_read reads false (run_at driver flash c l es))

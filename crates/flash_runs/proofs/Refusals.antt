@@ -5,6 +5,7 @@ use mathlib.Core.Bool.{Bool, true, false}
 use mathlib.Core.Path.{◌≡◌, refl, ap, sym, ◌∙◌}
 use mathlib.Core.List.{List}
 use lib.ListN.{length}
+use Rattle.std.specs.Prelude.{Result, Ok, Err}
 use Rattle.qspi.specs.Choice.{pick}
 use Rattle.qspi.specs.Shown.{Shown}
 use Rattle.qspi.specs.declared.bus.Reply.{Reply}
@@ -13,7 +14,6 @@ use Rattle.spi_flash.specs.Beginning as Beginning
 use Rattle.spi_flash.specs.Settling as Settling
 use Rattle.spi_flash.specs.Loan.{Lent}
 use Rattle.spi_flash.specs.Run as Run
-use Rattle.spi_flash.specs.declared.entry.Entry.{Entry}
 use Rattle.spi_flash.specs.declared.error.FlashError.{FlashError}
 use Rattle.spi_flash.specs.declared.loan.Takes.{Takes}
 use Rattle.flash_runs.specs.Driver.{Left, Driver}
@@ -82,10 +82,10 @@ module _ {S P A : Type 0} where
       unfolding Keeps Beginning.freed
       freed-kept flash l = kept-pick flash l flash.built _ _ (λ e h. absurd (ends-not _ e h)) (λ e h. (refl, refl))
 
-      entered-kept : (flash : Flash S P) (l : Lent) (entry : Entry) (x : Stepped S P A) → Keeps flash l (left_with plain x l) → Keeps flash l (left_with plain (Beginning.entered plain flash entry x) l)
+      entered-kept : (flash : Flash S P) (l : Lent) (entry : Result (Unit {0}) FlashError) (x : Stepped S P A) → Keeps flash l (left_with plain x l) → Keeps flash l (left_with plain (Beginning.entered plain flash entry x) l)
       unfolding Keeps
-      entered-kept flash l Entry.Open x h = h
-      entered-kept flash l (Entry.Shut error) x h = λ e k. (refl, refl)
+      entered-kept flash l (Ok _) x h = h
+      entered-kept flash l (Err error) x h = λ e k. (refl, refl)
 
       begun_kept : (flash : Flash S P) (takes : Takes) (x : Then S P A) (l : Lent) → Keeps flash l (begun parts in_bounds flash takes x l)
       unfolding Beginning.begun

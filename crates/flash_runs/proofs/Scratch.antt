@@ -1,4 +1,5 @@
 -- What is put into the scratch, over every run of the machine: the bytes that a step gives out, at their places.
+use Rattle.std.specs.Prelude.{Option, Some, None, Ok}
 use Prim.Native.Nat.{ℕ, ◌≤◌}
 use mathlib.Core.Bool.{true}
 use mathlib.Core.Path.{◌≡◌, refl}
@@ -12,7 +13,7 @@ use Rattle.qspi.specs.Command as Command
 use Rattle.qspi.specs.Command.{command_bytes, scratch_least}
 use Rattle.qspi.proofs.Cases.{by_cases}
 use Rattle.qspi.proofs.Filler.{filler-most}
-use Rattle.frames.specs.Frame.{first_of, action_of, next_stage, value_of, sink_of, moved_on, advanced_at, advanced_of, taken_in, gave, exchange_of, with_payload, scratch_at, given_scratch}
+use Rattle.frames.specs.Frame.{Outcome, first_of, action_of, next_stage, value_of, sink_of, moved_on, advanced_at, advanced_of, taken_in, gave, exchange_of, with_payload, scratch_at, given_scratch}
 use Rattle.frames.specs.ShownBytes.{payload_bytes, start_shown, shown_at}
 use Rattle.frames.proofs.Sent.{shown-bytes}
 use Rattle.qspi.specs.declared.bus.Reply.{Reply}
@@ -21,9 +22,7 @@ use Rattle.qspi.specs.declared.transfer.Payload.{Payload}
 use Rattle.qspi.specs.declared.transfer.Body.{Body}
 use Rattle.qspi.specs.declared.transfer.Transfer.{Transfer}
 use Rattle.frames.specs.declared.frame.Advanced.{Advanced}
-use Rattle.frames.specs.declared.frame.Following.{Following}
 use Rattle.frames.specs.declared.frame.Frame.{Frame}
-use Rattle.frames.specs.declared.frame.Outcome.{Outcome}
 use Rattle.frames.specs.declared.frame.Stage.{Stage}
 use Rattle.spi_flash.specs.declared.loan.Takes.{Takes}
 use Rattle.spi_flash.specs.Loan.{Lent, ready_for}
@@ -82,9 +81,9 @@ module _ (given s : List ℕ) (long : Long s) where
   abbrev PutsAt : Stage → Transfer → BusFrame → Type 0
   PutsAt stage t frame = Puts (shown_at stage t given) frame given s (scratch_at stage t s) × FramedAt stage t (frame_after (shown_at stage t given) frame)
 
-  abbrev PutsNext : Transfer → Following → BusFrame → Type 0
-  PutsNext t (Following.To stage) frame = PutsAt stage t frame
-  PutsNext t Following.Over frame = Unit {0}
+  abbrev PutsNext : Transfer → Option Stage → BusFrame → Type 0
+  PutsNext t (Some stage) frame = PutsAt stage t frame
+  PutsNext t None frame = Unit {0}
 
   puts-next : (t : Transfer) (stage : Stage) (frame : BusFrame) → FramedAt stage t frame → PutsNext t (next_stage t stage) frame
   puts-next Transfer.Raise Stage.Start frame h = tt
@@ -110,15 +109,15 @@ module _ (given s : List ℕ) (long : Long s) where
   PutsBy (Advanced.More g) frame = PutsAt g.stage g.transfer frame
   PutsBy (Advanced.Over o) frame = Unit {0}
 
-  moves : (t : Transfer) (x : Following) (o : Outcome) (frame : BusFrame) → PutsNext t x frame → PutsBy (moved_on t x o) frame
-  moves t (Following.To stage) o frame h = h
-  moves t Following.Over o frame h = tt
+  moves : (t : Transfer) (x : Option Stage) (o : Outcome) (frame : BusFrame) → PutsNext t x frame → PutsBy (moved_on t x o) frame
+  moves t (Some stage) o frame h = h
+  moves t None o frame h = tt
 
   puts-by : (f : Frame) (r : Reply) (bytes : List ℕ) (frame : BusFrame) → FramedAt f.stage f.transfer frame → PutsBy (advanced_at f r bytes given) frame
   puts-by f Reply.Done bytes frame h =
       moves f.transfer (next_stage f.transfer f.stage) f.outcome frame (puts-next f.transfer f.stage frame h)
   puts-by f Reply.Data bytes frame h =
-      moves f.transfer (next_stage f.transfer f.stage) (Outcome.Value (value_of (sink_of f.transfer) bytes given)) frame
+      moves f.transfer (next_stage f.transfer f.stage) (Ok (value_of (sink_of f.transfer) bytes given)) frame
       (puts-next f.transfer f.stage frame h)
   puts-by f (Reply.Error code) bytes frame h = (refl, tt)
 

@@ -4,11 +4,11 @@ use mathlib.Core.Bool.{Bool, true, false}
 use mathlib.Core.Path.{◌≡◌, refl, ap, ap₂, ◌∙◌, subst}
 use mathlib.Core.List.{List}
 use lib.ListN.{length}
+use Rattle.std.specs.Prelude.{Result, Ok, Err}
 use Rattle.qspi.specs.Choice.{pick}
 use Rattle.qspi.specs.declared.bus.Reply.{Reply}
-use Rattle.frames.specs.Frame.{exchange_of, delivered_by}
+use Rattle.frames.specs.Frame.{Outcome, exchange_of, delivered_by}
 use Rattle.frames.specs.declared.frame.Exchanged.{Exchanged}
-use Rattle.frames.specs.declared.frame.Outcome.{Outcome}
 use Rattle.spi_flash.specs.Entry.{entry_of}
 use Rattle.spi_flash.specs.Beginning.{Calls, told, entered, opened, freed, constructed, begun, at_rest, begin_at, begins}
 use Rattle.spi_flash.specs.Loan.{Lent, ready_for, exchange_for}
@@ -16,7 +16,6 @@ use Rattle.spi_flash.specs.Machine.{lent_as}
 use Rattle.spi_flash.specs.Replying.{exchanged, step_at, steps}
 use Rattle.spi_flash.specs.Settling.{settled}
 use Rattle.spi_flash.specs.Shape.{Given, Shape}
-use Rattle.spi_flash.specs.declared.entry.Entry.{Entry}
 use Rattle.spi_flash.specs.declared.error.FlashError.{FlashError}
 use Rattle.spi_flash.specs.declared.loan.Takes.{Takes}
 use Rattle.qspi.proofs.Cases.{by_cases}
@@ -68,9 +67,9 @@ module _ {F S P A G C : Type 0} (shape : Shape F S P A G) (faithful : Faithful s
 
   -- ---- a call
 
-  enters : (flash : F) (entry : Entry) (x : G) (y : Stepped S P A) → Same shape x y → Same shape (entered shape flash entry x) (entered plain (view flash) entry y)
-  enters flash Entry.Open x y h = h
-  enters flash (Entry.Shut error) x y h = refuses-same flash error
+  enters : (flash : F) (entry : Result (Unit {0}) FlashError) (x : G) (y : Stepped S P A) → Same shape x y → Same shape (entered shape flash entry x) (entered plain (view flash) entry y)
+  enters flash (Ok _) x y h = h
+  enters flash (Err error) x y h = refuses-same flash error
 
   module _ (flash : F) (s : ℕ) where
     constructs : (fresh : S) → Same shape (constructed shape calls flash fresh s) (constructed plain calls (view flash) fresh s)

@@ -9,7 +9,7 @@ use Rattle.qspi.specs.Bytes.{AllBytes}
 use Rattle.qspi.specs.declared.bus.Reply.{Reply}
 use Rattle.qspi.specs.declared.transfer.Transfer.{Transfer}
 use Rattle.frames.specs.ShownBytes.{start_shown}
-use Rattle.frames.specs.declared.frame.Outcome.{Outcome}
+use Rattle.frames.specs.Frame.{Outcome}
 use Rattle.spi_flash.specs.Loan.{Lent}
 use Rattle.spi_flash.specs.Machine.{Onward, Simulates, tree}
 use Rattle.spi_flash.specs.Path.{delays, actions, Bounded, Reaches, Ends}

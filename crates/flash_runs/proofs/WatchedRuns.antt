@@ -1,4 +1,5 @@
 -- What a watcher sees of every run, from what it sees of the program.
+use Rattle.std.specs.Prelude.{Ok, Err}
 use Prim.Native.Nat.{ℕ}
 use mathlib.Core.Bool.{true}
 use mathlib.Core.Path.{◌≡◌, refl, sym, subst}
@@ -6,14 +7,13 @@ use mathlib.Core.List.{List, [], ◌∷◌}
 use lib.ListN.{length}
 use borrow.Author.Tests.{eqb-true}
 use Rattle.qspi.specs.Bus.{awaits_of, fits_at, fits_of}
-use Rattle.frames.specs.Frame.{first_of, action_at, action_of, frame_at, advanced_at, advanced_of, taken_in, gave, exchange_of}
+use Rattle.frames.specs.Frame.{Outcome, first_of, action_at, action_of, frame_at, advanced_at, advanced_of, taken_in, gave, exchange_of}
 use Rattle.frames.specs.ShownBytes.{start_shown, shown_at}
 use Rattle.frames.proofs.Sent.{shown-bytes}
 use Rattle.qspi.specs.declared.bus.Reply.{Reply}
 use Rattle.qspi.specs.declared.transfer.Body.{Body}
 use Rattle.qspi.specs.declared.transfer.Transfer.{Transfer}
 use Rattle.frames.specs.declared.frame.Stage.{Stage}
-use Rattle.frames.specs.declared.frame.Outcome.{Outcome}
 use Rattle.frames.specs.declared.frame.Advanced.{Advanced}
 use Rattle.frames.specs.declared.frame.Frame.{Frame}
 use Rattle.spi_flash.specs.declared.error.FlashError.{FlashError}
@@ -34,9 +34,9 @@ use Rattle.flash_runs.proofs.Watching.{Concludes, BehindHigh, BehindPayload, Beh
 
 module _ {Z : Type 0} (w : Watcher Z) (Q : Z → Type 0) where
   abbrev Behind : Z → Stage → Transfer → Outcome → (Z → ℕ → Type 0) → Type 0
-  Behind z Stage.Start t o later = (o ≡ Outcome.Value 0) × BehindStart w Q z t later
-  Behind z Stage.Command t o later = (o ≡ Outcome.Value 0) × BehindCommand w Q z t later
-  Behind z Stage.Payload t o later = (o ≡ Outcome.Value 0) × BehindPayload w Q z t later
+  Behind z Stage.Start t o later = (o ≡ Ok 0) × BehindStart w Q z t later
+  Behind z Stage.Command t o later = (o ≡ Ok 0) × BehindCommand w Q z t later
+  Behind z Stage.Payload t o later = (o ≡ Ok 0) × BehindPayload w Q z t later
   Behind z Stage.High t o later = BehindHigh w Q z o later
 
   -- an action of a transfer is out
@@ -52,7 +52,7 @@ module _ {Z : Type 0} (w : Watcher Z) (Q : Z → Type 0) where
 
   module _ (later : Z → ℕ → Type 0) (z : Z) (bytes given : List ℕ) where
     abbrev fresh : Outcome
-    fresh = Outcome.Value 0
+    fresh = Ok 0
 
     from_start : (t : Transfer) → BehindStart w Q z t later → Advances z Stage.Start t fresh later Reply.Done bytes given
     from_start Transfer.Raise h = h
@@ -143,7 +143,7 @@ module _ (C : Type 0) {S A : Type 0} (Valid : S → Type 0) (next : S → Outcom
   starts : (es : List (Event C)) → Goes es → (t : Transfer) (s : S) (l : Lent) (z heard : Z) → Valid s → Seen w Q heard t (later s) → Steps es z heard (settle k (more t s) l)
   unfolding first_of
   starts es ih t s l z heard v h =
-      rw (first-shown t l.scratch l.given) (ih s t Stage.Start (Outcome.Value 0) (w.gives (start_shown t) heard) v (h.0, (refl, h.1)))
+      rw (first-shown t l.scratch l.given) (ih s t Stage.Start (Ok 0) (w.gives (start_shown t) heard) v (h.0, (refl, h.1)))
 
   settles : (es : List (Event C)) → Goes es → (d : Decision S A) (l : Lent) (z heard : Z) → Onward Valid d → Q heard → Sees w Q (λ a y. E y) heard (tree meaning d) →
       Steps es z heard (settle k d l)
@@ -153,9 +153,9 @@ module _ (C : Type 0) {S A : Type 0} (Valid : S → Type 0) (next : S → Outcom
 
   over : (es : List (Event C)) → Goes es → (s : S) → Valid s → (o : Outcome) (l : Lent) (z heard : Z) → Q heard → Concludes w Q heard o (later s) →
       Steps es z heard (settle k (next s o) l)
-  over es ih s v (Outcome.Value x) l z heard q h =
-      settles es ih (next s (Outcome.Value x)) l z heard (sim.keeps s x v) q (subst (Sees w Q (λ a y. E y) heard) (sim.on_value s x v) h)
-  over es ih s v (Outcome.Failed code) l z heard q h = rw (sim.on_failure s code) (settles es ih (bad (FlashError.Spi code)) l z heard tt q tt)
+  over es ih s v (Ok x) l z heard q h =
+      settles es ih (next s (Ok x)) l z heard (sim.keeps s x v) q (subst (Sees w Q (λ a y. E y) heard) (sim.on_value s x v) h)
+  over es ih s v (Err error) l z heard q h = rw (sim.on_failure s error) (settles es ih (bad (FlashError.Spi error.0)) l z heard tt q tt)
 
   -- a reply that fits
   module _ (es : List (Event C)) (ih : Goes es) (s : S) (v : Valid s) (t : Transfer) (stage : Stage) (o : Outcome) (z : Z) (h : At w Q z stage t o (later s))

@@ -1,4 +1,5 @@
 -- What a watcher sees of a program: Q at every action that it gives out, E where it ends well.
+use Rattle.std.specs.Prelude.{Ok, Err}
 use Prim.Native.Nat.{ℕ}
 use mathlib.Core.Bool.{Bool, true, false}
 use mathlib.Core.Path.{◌≡◌, refl}
@@ -6,13 +7,12 @@ use mathlib.Core.List.{List, []}
 use lib.ListN.{length}
 use Rattle.qspi.specs.Command.{command_bytes}
 use Rattle.qspi.specs.Shown.{Shown, high, write, read, quad_read, quad_write}
-use Rattle.frames.specs.Frame.{value_of}
+use Rattle.frames.specs.Frame.{Outcome, value_of}
 use Rattle.frames.specs.ShownBytes.{payload_bytes, start_shown}
 use Rattle.qspi.specs.declared.command.Command.{Command}
 use Rattle.qspi.specs.declared.transfer.Sink.{Sink}
 use Rattle.qspi.specs.declared.transfer.Body.{Body}
 use Rattle.qspi.specs.declared.transfer.Transfer.{Transfer}
-use Rattle.frames.specs.declared.frame.Outcome.{Outcome}
 use Rattle.spi_flash.specs.declared.error.FlashError.{FlashError}
 use Rattle.spi_flash.specs.Prog.{Prog, ret, fail, ask, ◌>>=◌, ◌>>◌, refuse, transfer}
 use Rattle.flash_runs.specs.Watch.{Watcher}
@@ -30,8 +30,8 @@ module _ {Z : Type 0} (w : Watcher Z) (Q : Z → Type 0) where
   Gives shown z then = Q (w.gives shown z) × then (w.gives shown z)
 
   abbrev pub Concludes : Z → Outcome → (Z → ℕ → Type 0) → Type 0
-  Concludes z (Outcome.Value v) later = later z v
-  Concludes z (Outcome.Failed code) later = Unit {0}
+  Concludes z (Ok v) later = later z v
+  Concludes z (Err error) later = Unit {0}
 
   abbrev pub BehindHigh : Z → Outcome → (Z → ℕ → Type 0) → Type 0
   BehindHigh z o later = Q (hush z) × Concludes (hush z) o later
@@ -47,21 +47,21 @@ module _ {Z : Type 0} (w : Watcher Z) (Q : Z → Type 0) where
   -- the data are any bytes of the length asked for
   abbrev pub BehindRead : Z → ℕ → Sink → (Z → ℕ → Type 0) → Type 0
   BehindRead z n sink later =
-      Breaks (hush z) × ((bytes given : List ℕ) → length bytes ≡ n → Closes (w.hears bytes z) (Outcome.Value (value_of sink bytes given)) later)
+      Breaks (hush z) × ((bytes given : List ℕ) → length bytes ≡ n → Closes (w.hears bytes z) (Ok (value_of sink bytes given)) later)
 
   abbrev pub BehindPayload : Z → Transfer → (Z → ℕ → Type 0) → Type 0
   BehindPayload z Transfer.Raise later = ⊥
   BehindPayload z (Transfer.Pause us) later = ⊥
   BehindPayload z (Transfer.Framed c Body.None) later = ⊥
   BehindPayload z (Transfer.Framed c (Body.Read n sink)) later = BehindRead z n sink later
-  BehindPayload z (Transfer.Framed c (Body.Write payload)) later = Closes (hush z) (Outcome.Value 0) later
+  BehindPayload z (Transfer.Framed c (Body.Write payload)) later = Closes (hush z) (Ok 0) later
   BehindPayload z (Transfer.Framed c (Body.QuadRead tclqv margin n sink)) later = BehindRead z n sink later
-  BehindPayload z (Transfer.Framed c (Body.QuadWrite payload)) later = Closes (hush z) (Outcome.Value 0) later
+  BehindPayload z (Transfer.Framed c (Body.QuadWrite payload)) later = Closes (hush z) (Ok 0) later
 
   abbrev pub BehindCommand : Z → Transfer → (Z → ℕ → Type 0) → Type 0
   BehindCommand z Transfer.Raise later = ⊥
   BehindCommand z (Transfer.Pause us) later = ⊥
-  BehindCommand z (Transfer.Framed c Body.None) later = Closes (hush z) (Outcome.Value 0) later
+  BehindCommand z (Transfer.Framed c Body.None) later = Closes (hush z) (Ok 0) later
   BehindCommand z (Transfer.Framed c (Body.Read n sink)) later = Breaks (hush z) × Gives (read n) (hush z) (λ y. BehindRead y n sink later)
   BehindCommand z (Transfer.Framed c (Body.Write payload)) later =
       Breaks (hush z) × ((given : List ℕ) → Gives (write (payload_bytes payload given)) (hush z) (λ y. BehindPayload y (Transfer.Framed c (Body.Write payload)) later))

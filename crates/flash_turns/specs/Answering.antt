@@ -1,6 +1,7 @@
 -- A turn that answers the action that is out.
 use Rattle.std.specs.Prelude.{ℕ, List}
-use Rattle.flash_calls.specs.declared.given.Given.{Given}
+use Rattle.machine.specs.declared.state.Given.{Given}
+use Rattle.flash_calls.specs.declared.given.Answer.{Answer}
 use Rattle.flash_words.specs.declared.asked.Ask.{Ask}
 use Rattle.trace_turns.specs.Place.{gave_to}
 use Rattle.trace_turns.specs.declared.place.Place.{Place}
@@ -29,5 +30,5 @@ answered_to next reply = record { next = next; reply = reply }
 abbrev pub answering_to : Place → Hearing → Answered
 answering_to place h = answered_to (heard_then place h.hears) h.reply
 
-unfoldable pub answering_of : Settings → Place → Given → List ℕ → ℕ → List ℕ → Answered
+unfoldable pub answering_of : Settings → Place → Given Answer → List ℕ → ℕ → List ℕ → Answered
 answering_of settings place given text room reply = answering_to place (awaited_of given place settings text room reply)

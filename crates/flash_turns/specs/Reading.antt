@@ -1,5 +1,5 @@
 -- A turn that takes a line between two calls.
-use Rattle.std.specs.Prelude.{ℕ, false, List, length}
+use Rattle.std.specs.Prelude.{ℕ, false, List, length, Option, Some, None}
 use Rattle.qspi.specs.Choice.{pick}
 use Rattle.lines.specs.Text.{Text, appended}
 use Rattle.case_text.specs.Line.{line_at, next_of}
@@ -17,8 +17,6 @@ use Rattle.flash_words.specs.declared.asked.Asked.{Asked}
 use Rattle.dialect.specs.Settings.{settled_by}
 use Rattle.dialect.specs.Words.{line_of, asked_of}
 use Rattle.dialect.specs.declared.settings.Settings.{Settings}
-use Rattle.flash_turns.specs.State.{turn_to}
-use Rattle.flash_turns.specs.declared.state.Turn.{Turn}
 
 -- where the turn leaves the trace, what it asks, the room and what was printed
 pub record Called : Type 0 where
@@ -32,20 +30,22 @@ abbrev pub called_to : Settings → Place → Ask → List ℕ → Text → Call
 called_to settings place ask room text = record { settings = settings; place = place; ask = ask; room = room; text = text }
 
 -- "For each call: call and its name"; a line that follows no rule is bad
-abbrev pub called_at : Asked → Settings → Place → List ℕ → ℕ → List ℕ → Text → Called
-called_at (Asked.Begin call takes) settings place line next room out =
-    called_to settings (started_of takes false next) (Ask.Begin call takes) (laid_of takes line room) (appended (call_line (word_of 1 line)) out)
-called_at Asked.Bad settings place line next room out = called_to settings (in_mode place Mode.Bad) Ask.Nothing room out
+abbrev pub called_at : Option Asked → Settings → Place → List ℕ → ℕ → List ℕ → Text → Called
+called_at (Some asked) settings place line next room out =
+    called_to settings (started_of asked.takes false next) (Ask.Begin asked.call asked.takes) (laid_of asked.takes line room)
+    (appended (call_line (word_of 1 line)) out)
+called_at None settings place line next room out = called_to settings (in_mode place Mode.Bad) Ask.Nothing room out
 
 unfoldable pub called_of : Settings → Place → List ℕ → List ℕ → Text → Called
 called_of settings place text room out =
     called_at (asked_of (line_at text place.at) settings (length room)) settings place (line_at text place.at) (next_of text place.at) room out
 
--- any other line
-abbrev pub taken_of : Settings → Place → Line → ℕ → ℕ → Turn
-taken_of settings place line next at = turn_to (settled_by settings line) (between_at place line next) Ask.Nothing at
+-- a call, any other line, or one that follows no rule
+abbrev pub reading_at : Option Line → Settings → Place → List ℕ → List ℕ → Text → Called
+reading_at (Some line) settings place text room out =
+    pick (is_call line) (called_of settings place text room out)
+    (called_to (settled_by settings line) (between_at place line (next_of text place.at)) Ask.Nothing room out)
+reading_at None settings place text room out = called_to settings (in_mode place Mode.Bad) Ask.Nothing room out
 
 unfoldable pub reading_of : Settings → Place → List ℕ → List ℕ → Text → Called
-reading_of settings place text room out =
-    pick (is_call (line_of text place.at settings)) (called_of settings place text room out)
-    (called_to (settled_by settings (line_of text place.at settings)) (between_at place (line_of text place.at settings) (next_of text place.at)) Ask.Nothing room out)
+reading_of settings place text room out = reading_at (line_of text place.at settings) settings place text room out

@@ -1,12 +1,12 @@
 -- Any turn of a trace, from what the driver gave last and its count of bytes delivered.
 use Rattle.std.specs.Prelude.{ℕ, List, length}
 use Rattle.lines.specs.Text.{Text}
-use Rattle.flash_calls.specs.declared.given.Given.{Given}
+use Rattle.machine.specs.declared.state.Given.{Given}
+use Rattle.flash_calls.specs.declared.given.Answer.{Answer}
 use Rattle.flash_words.specs.declared.asked.Ask.{Ask}
 use Rattle.trace_turns.specs.Show.{ShownAt, showing_of, bad_of}
 use Rattle.trace_turns.specs.declared.place.Mode.{Mode}
 use Rattle.trace_turns.specs.declared.place.Place.{Place}
-use Rattle.trace_turns.specs.declared.show.Shown.{Shown}
 use Rattle.dialect.specs.declared.settings.Settings.{Settings}
 use Rattle.flash_turns.specs.Answering.{Answered, answering_of}
 use Rattle.flash_turns.specs.Giving.{giving_of}
@@ -15,11 +15,11 @@ use Rattle.flash_turns.specs.State.{turn_to}
 use Rattle.flash_turns.specs.declared.answering.Next.{Next}
 use Rattle.flash_turns.specs.declared.state.Turn.{Turn}
 
-abbrev pub shown_turn : Settings → Shown → Turn
-shown_turn settings after = turn_to settings after.place Ask.Nothing after.at
+abbrev pub shown_turn : Settings → Place → Turn
+shown_turn settings place = turn_to settings place Ask.Nothing
 
-abbrev pub next_turn : Settings → Next → ℕ → Turn
-next_turn settings next at = turn_to settings next.place next.ask at
+abbrev pub next_turn : Settings → Next → Turn
+next_turn settings next = turn_to settings next.place next.ask
 
 -- where a turn leaves the trace, what it asks, the room, the reply's memory and what was printed
 pub record TurnTaken : Type 0 where
@@ -43,7 +43,7 @@ taken_shown settings room reply p = taken_to settings p.place Ask.Nothing room r
 abbrev pub taken_answered : Settings → List ℕ → Text → Answered → TurnTaken
 taken_answered settings room out a = taken_to settings a.next.place a.next.ask room a.reply out
 
-abbrev pub turn_at : Mode → Settings → Place → Given → ℕ → List ℕ → List ℕ → List ℕ → List ℕ → Text → TurnTaken
+abbrev pub turn_at : Mode → Settings → Place → Given Answer → ℕ → List ℕ → List ℕ → List ℕ → List ℕ → Text → TurnTaken
 turn_at Mode.Reading settings place given count text scratch room reply out = taken_called reply (reading_of settings place text room out)
 turn_at Mode.Giving settings place given count text scratch room reply out = taken_shown settings room reply (giving_of place given count scratch room out)
 turn_at Mode.Awaiting settings place given count text scratch room reply out = taken_answered settings room out (answering_of settings place given text (length room) reply)
@@ -52,5 +52,5 @@ turn_at Mode.Bad settings place given count text scratch room reply out = taken_
 turn_at Mode.Over settings place given count text scratch room reply out = taken_to settings place Ask.Nothing room reply out
 
 -- one turn; a trace that is over stays
-unfoldable pub turn_of : Settings → Place → Given → ℕ → List ℕ → List ℕ → List ℕ → List ℕ → Text → TurnTaken
+unfoldable pub turn_of : Settings → Place → Given Answer → ℕ → List ℕ → List ℕ → List ℕ → List ℕ → Text → TurnTaken
 turn_of settings place given count text scratch room reply out = turn_at place.mode settings place given count text scratch room reply out

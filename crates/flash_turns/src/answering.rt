@@ -1,13 +1,12 @@
 // A turn that answers the action that is out.
 ghost use Rattle.std.specs.Prelude.{◌≡◌};
-ghost use Rattle.flash_turns.specs.Answering.{next_to, heard_then, answered_to, answering_of};
+ghost use Rattle.flash_turns.specs.Answering.{heard_then, answered_to, answering_of};
 
 use dialect::hears;
 use dialect::hears::Hears;
 use dialect::settings::Settings;
 use flash_calls::given::Given;
 use flash_words::asked::Ask;
-use trace_turns::place;
 use trace_turns::place::Place;
 
 #[derive(Clone, Copy)]
@@ -16,29 +15,32 @@ pub struct Next {
     pub ask: Ask,
 }
 
-fn next_to(place: Place, ask: Ask) -> Next
-    ensures { result ≡ next_to place ask }
-{
-    Next {
-        place: place,
-        ask: ask,
-    }
-}
-
 // What is heard, as a question to the driver.
+#[tactic(auto, unfolding(crate::specs::Answering::heard_then))]
 fn heard(place: Place, hears: Hears) -> Next
     ensures { result ≡ heard_then place hears }
 {
-    let takes = place.takes;
     match hears {
-        Hears::Answer { reply, n, next } => {
-            return next_to(place::gave(place, next), Ask::Answer { reply, n, takes });
-        }
-        Hears::Stop { error, next } => return next_to(place::gave(place, next), Ask::Stop(error)),
-        Hears::Stay(stays) => return next_to(stays, Ask::Nothing),
+        Hears::Answer { reply, n, next } => Next {
+            place: place.gave(next),
+            ask: Ask::Answer {
+                reply,
+                n,
+                takes: place.takes,
+            },
+        },
+        Hears::Stop { error, next } => Next {
+            place: place.gave(next),
+            ask: Ask::Stop(error),
+        },
+        Hears::Stay(stays) => Next {
+            place: stays,
+            ask: Ask::Nothing,
+        },
     }
 }
 
+#[tactic(auto, unfolding(crate::specs::Answering::answering_of))]
 pub fn answering(
     settings: Settings,
     place: Place,

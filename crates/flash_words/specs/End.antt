@@ -9,7 +9,7 @@ use Rattle.trace_words.specs.Loan.{data_of}
 use Rattle.trace_words.specs.Print.{count_line, values_line}
 use Rattle.flash_calls.specs.Answer.{answer_values}
 use Rattle.flash_calls.specs.declared.given.Answer.{Answer}
-use Rattle.flash_calls.specs.declared.given.Given.{Given}
+use Rattle.machine.specs.declared.state.Given.{Given}
 
 -- "E n, document 01's number: 0 is success", then "V and the values of the answer"
 unfoldable pub ended_lines : Answer → List ℕ
@@ -19,7 +19,7 @@ unfoldable pub failed_lines : FlashError → List ℕ
 failed_lines error = end_line (error_number error) ++ values_line (error_values error)
 
 -- "then a line for each action given out", and the lines of the call's end
-unfoldable pub given_lines : Given → Takes → ℕ → List ℕ → List ℕ → List ℕ
+unfoldable pub given_lines : Given Answer → Takes → ℕ → List ℕ → List ℕ → List ℕ
 given_lines (Given.Act action) takes n scratch room = line_of (shown_of action scratch (data_of takes room))
 given_lines (Given.Ended answer) takes n scratch room = ended_lines answer ++ count_line takes n
 given_lines (Given.Failed error) takes n scratch room = failed_lines error ++ count_line takes n

@@ -4,12 +4,14 @@ use qspi::bus::Reply;
 use spi_flash::error::FlashError;
 use spi_flash::loan::Takes;
 
+// A call, and what it lends.
 #[derive(Clone, Copy)]
-pub enum Asked {
-    Begin { call: Call, takes: Takes },
-    Bad,
+pub struct Asked {
+    pub call: Call,
+    pub takes: Takes,
 }
 
+// Nothing is one of four arms that every reader takes apart: an Option around the other three would only add a match.
 #[derive(Clone, Copy)]
 pub enum Ask {
     Nothing,

@@ -3,3 +3,4 @@
 
 pub mod asked;
 pub mod end;
+pub mod words;

@@ -1,10 +1,11 @@
 -- One transfer, action by action (document 01, "Actions and replies"; the Rust's `command` and `command_then_read`).
-use Rattle.std.specs.Prelude.{ℕ, Bool, true, false, List, length, drop}
+use Rattle.std.specs.Prelude.{ℕ, Bool, true, false, Option, Some, None, Result, Ok, Err, List, length, drop}
 use Rattle.qspi.specs.Choice.{pick}
 use Rattle.qspi.specs.Bus.{fits_of}
 use Rattle.qspi.specs.Command.{command_bytes, with_command}
 use Rattle.qspi.specs.Bytes.{number_of, begins_of, delivered_of, end_of, filler_length, with_filler, with_marker}
 use Rattle.qspi.specs.declared.bus.Action.{Action}
+use Rattle.qspi.specs.declared.bus.BusError.{BusError}
 use Rattle.qspi.specs.declared.bus.Part.{Part}
 use Rattle.qspi.specs.declared.bus.Reply.{Reply}
 use Rattle.qspi.specs.declared.command.Command.{Command}
@@ -13,11 +14,13 @@ use Rattle.qspi.specs.declared.transfer.Sink.{Sink}
 use Rattle.qspi.specs.declared.transfer.Body.{Body}
 use Rattle.qspi.specs.declared.transfer.Transfer.{Transfer}
 use Rattle.frames.specs.declared.frame.Stage.{Stage}
-use Rattle.frames.specs.declared.frame.Outcome.{Outcome}
 use Rattle.frames.specs.declared.frame.Frame.{Frame}
-use Rattle.frames.specs.declared.frame.Following.{Following}
 use Rattle.frames.specs.declared.frame.Advanced.{Advanced}
 use Rattle.frames.specs.declared.frame.Exchanged.{Exchanged}
+
+-- what a transfer came to: the number that was read, or the code of a failed bus call
+abbrev pub Outcome : Type 0
+Outcome = Result ℕ BusError
 
 -- the result of an exchange, and the lent bytes after it
 pub record AfterExchange : Type 0 where
@@ -31,7 +34,7 @@ exchanged_to x scratch buffer = record { exchanged = x; scratch = scratch; buffe
 -- ---- the actions of a transfer
 
 unfoldable pub first_of : Transfer → Frame
-first_of t = record { transfer = t; stage = Stage.Start; outcome = Outcome.Value 0 }
+first_of t = record { transfer = t; stage = Stage.Start; outcome = Ok 0 }
 
 abbrev pub payload_part : Payload → Part
 payload_part (Payload.Data from len) = Part.Data from len
@@ -117,10 +120,10 @@ given_scratch f s = scratch_at f.stage f.transfer s
 
 -- ---- the replies
 
-abbrev pub after_start : Transfer → Following
-after_start Transfer.Raise = Following.Over
-after_start (Transfer.Pause us) = Following.Over
-after_start (Transfer.Framed c body) = Following.To (pick (is_quad body) Stage.Payload Stage.Command)
+abbrev pub after_start : Transfer → Option Stage
+after_start Transfer.Raise = None
+after_start (Transfer.Pause us) = None
+after_start (Transfer.Framed c body) = Some (pick (is_quad body) Stage.Payload Stage.Command)
 
 -- a command of its own is followed by its body, where it has one
 abbrev pub body_stage : Body → Stage
@@ -130,16 +133,16 @@ body_stage (Body.Write payload) = Stage.Payload
 body_stage (Body.QuadRead tclqv margin n sink) = Stage.High
 body_stage (Body.QuadWrite payload) = Stage.High
 
-abbrev pub after_command : Transfer → Following
-after_command Transfer.Raise = Following.To Stage.High
-after_command (Transfer.Pause us) = Following.To Stage.High
-after_command (Transfer.Framed c body) = Following.To (body_stage body)
+abbrev pub after_command : Transfer → Stage
+after_command Transfer.Raise = Stage.High
+after_command (Transfer.Pause us) = Stage.High
+after_command (Transfer.Framed c body) = body_stage body
 
-abbrev pub next_stage : Transfer → Stage → Following
+abbrev pub next_stage : Transfer → Stage → Option Stage
 next_stage t Stage.Start = after_start t
-next_stage t Stage.Command = after_command t
-next_stage t Stage.Payload = Following.To Stage.High
-next_stage t Stage.High = Following.Over
+next_stage t Stage.Command = Some (after_command t)
+next_stage t Stage.Payload = Some Stage.High
+next_stage t Stage.High = None
 
 abbrev pub body_sink : Body → Sink
 body_sink Body.None = Sink.Number
@@ -157,20 +160,20 @@ sink_of (Transfer.Framed c body) = body_sink body
 abbrev pub value_of : Sink → List ℕ → List ℕ → ℕ
 value_of Sink.Number bytes lent = number_of bytes
 value_of (Sink.Buffer at) bytes lent = 0
-value_of (Sink.Compare from) bytes lent = begins_of bytes (drop from lent)
+value_of (Sink.Compare from) bytes lent = pick (begins_of bytes (drop from lent)) 1 0
 
 abbrev pub frame_at : Transfer → Stage → Outcome → Frame
 frame_at t stage outcome = record { transfer = t; stage = stage; outcome = outcome }
 
-abbrev pub moved_on : Transfer → Following → Outcome → Advanced
-moved_on t (Following.To stage) outcome = Advanced.More (frame_at t stage outcome)
-moved_on t Following.Over outcome = Advanced.Over outcome
+abbrev pub moved_on : Transfer → Option Stage → Outcome → Advanced
+moved_on t (Some stage) outcome = Advanced.More (frame_at t stage outcome)
+moved_on t None outcome = Advanced.Over outcome
 
 abbrev pub advanced_at : Frame → Reply → List ℕ → List ℕ → Advanced
 advanced_at f Reply.Done bytes lent = moved_on f.transfer (next_stage f.transfer f.stage) f.outcome
 advanced_at f Reply.Data bytes lent =
-    moved_on f.transfer (next_stage f.transfer f.stage) (Outcome.Value (value_of (sink_of f.transfer) bytes lent))
-advanced_at f (Reply.Error code) bytes lent = moved_on f.transfer (Following.To Stage.High) (Outcome.Failed code)
+    moved_on f.transfer (next_stage f.transfer f.stage) (Ok (value_of (sink_of f.transfer) bytes lent))
+advanced_at f (Reply.Error code) bytes lent = moved_on f.transfer (Some Stage.High) (Err (record { 0 = code }))
 
 -- where the frame goes; document 01: "After a bus error select goes high and the call ends"
 unfoldable pub advanced_of : Frame → Reply → List ℕ → List ℕ → Advanced

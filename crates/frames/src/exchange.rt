@@ -3,23 +3,21 @@ ghost use Rattle.std.specs.Prelude.{◌≡◌};
 ghost use Rattle.frames.specs.Frame.{after_start, body_stage, after_command, next_stage, body_sink, sink_of, value_of, moved_on, advanced_of, taken_in, delivered_by, exchanged_to, exchange_of};
 
 use crate::frame;
-use crate::frame::{Advanced, Exchanged, Following, Frame, Outcome, Stage};
-use qspi::bus::Reply;
+use crate::frame::{Advanced, Exchanged, Frame, Outcome, Stage};
+use qspi::bus::{BusError, Reply};
 use qspi::transfer::{Body, Sink, Transfer};
 use qspi::{bus, bytes};
 
-fn after_start(transfer: Transfer) -> Following
+fn after_start(transfer: Transfer) -> Option<Stage>
     ensures { result ≡ after_start transfer }
 {
     match transfer {
-        Transfer::Raise => Following::Over,
-        Transfer::Pause(_) => Following::Over,
-        Transfer::Framed { command: _, body } => {
-            if frame::is_quad(body) {
-                return Following::To(Stage::Payload);
-            }
-            Following::To(Stage::Command)
-        }
+        Transfer::Raise | Transfer::Pause(_) => None,
+        Transfer::Framed { body, .. } => Some(if frame::is_quad(body) {
+            Stage::Payload
+        } else {
+            Stage::Command
+        }),
     }
 }
 
@@ -27,37 +25,29 @@ fn body_stage(body: Body) -> Stage
     ensures { result ≡ body_stage body }
 {
     match body {
-        Body::None => Stage::High,
-        Body::Read { len: _, sink: _ } => Stage::Payload,
-        Body::Write(_) => Stage::Payload,
-        Body::QuadRead {
-            tclqv_ns: _,
-            margin: _,
-            len: _,
-            sink: _,
-        } => Stage::High,
-        Body::QuadWrite(_) => Stage::High,
+        Body::Read { .. } | Body::Write(_) => Stage::Payload,
+        Body::None | Body::QuadRead { .. } | Body::QuadWrite(_) => Stage::High,
     }
 }
 
-fn after_command(transfer: Transfer) -> Following
+fn after_command(transfer: Transfer) -> Stage
     ensures { result ≡ after_command transfer }
 {
     match transfer {
-        Transfer::Raise => Following::To(Stage::High),
-        Transfer::Pause(_) => Following::To(Stage::High),
-        Transfer::Framed { command: _, body } => Following::To(body_stage(body)),
+        Transfer::Raise | Transfer::Pause(_) => Stage::High,
+        Transfer::Framed { body, .. } => body_stage(body),
     }
 }
 
-fn next_stage(transfer: Transfer, stage: Stage) -> Following
+// Nothing follows select high.
+fn next_stage(transfer: Transfer, stage: Stage) -> Option<Stage>
     ensures { result ≡ next_stage transfer stage }
 {
     match stage {
         Stage::Start => after_start(transfer),
-        Stage::Command => after_command(transfer),
-        Stage::Payload => Following::To(Stage::High),
-        Stage::High => Following::Over,
+        Stage::Command => Some(after_command(transfer)),
+        Stage::Payload => Some(Stage::High),
+        Stage::High => None,
     }
 }
 
@@ -65,16 +55,8 @@ fn body_sink(body: Body) -> Sink
     ensures { result ≡ body_sink body }
 {
     match body {
-        Body::None => Sink::Number,
-        Body::Read { len: _, sink } => sink,
-        Body::Write(_) => Sink::Number,
-        Body::QuadRead {
-            tclqv_ns: _,
-            margin: _,
-            len: _,
-            sink,
-        } => sink,
-        Body::QuadWrite(_) => Sink::Number,
+        Body::Read { sink, .. } | Body::QuadRead { sink, .. } => sink,
+        Body::None | Body::Write(_) | Body::QuadWrite(_) => Sink::Number,
     }
 }
 
@@ -82,9 +64,8 @@ fn sink_of(transfer: Transfer) -> Sink
     ensures { result ≡ sink_of transfer }
 {
     match transfer {
-        Transfer::Raise => Sink::Number,
-        Transfer::Pause(_) => Sink::Number,
-        Transfer::Framed { command: _, body } => body_sink(body),
+        Transfer::Raise | Transfer::Pause(_) => Sink::Number,
+        Transfer::Framed { body, .. } => body_sink(body),
     }
 }
 
@@ -95,61 +76,49 @@ fn value_of(sink: Sink, s: &[u8], data: &[u8]) -> u64
     match sink {
         Sink::Number => bytes::number(s),
         Sink::Buffer(_) => 0,
-        Sink::Compare(from) => bytes::compare(s, data, from),
+        Sink::Compare(from) => u64::from(bytes::compare(s, data, from)),
     }
 }
 
-fn moved_on(transfer: Transfer, following: Following, outcome: Outcome) -> Advanced
+fn moved_on(transfer: Transfer, following: Option<Stage>, outcome: Outcome) -> Advanced
     ensures { result ≡ moved_on transfer following outcome }
 {
     match following {
-        Following::To(stage) => return Advanced::More(Frame {
-            transfer: transfer,
-            stage: stage,
-            outcome: outcome,
+        Some(stage) => Advanced::More(Frame {
+            transfer,
+            stage,
+            outcome,
         }),
-        Following::Over => return Advanced::Over(outcome),
+        None => Advanced::Over(outcome),
     }
 }
 
 // Where the frame goes on a reply that fits. After a bus error select goes high.
+#[tactic(auto, unfolding(crate::specs::Frame::advanced_of))]
 pub fn advance(frame: Frame, reply: Reply, s: &[u8], data: &[u8]) -> Advanced
     ensures { result ≡ advanced_of frame reply s.now «data».now }
 {
     let transfer = frame.transfer;
-    let stage = frame.stage;
-    let outcome = frame.outcome;
+    let next = next_stage(transfer, frame.stage);
     match reply {
-        Reply::Done => return moved_on(transfer, next_stage(transfer, stage), outcome),
-        Reply::Data => {
-            let value = value_of(sink_of(transfer), s, data);
-            return moved_on(transfer, next_stage(transfer, stage), Outcome::Value(value));
-        }
-        Reply::Error(code) => return moved_on(
-            transfer,
-            Following::To(Stage::High),
-            Outcome::Failed(code),
-        ),
+        Reply::Done => moved_on(transfer, next, frame.outcome),
+        Reply::Data => moved_on(transfer, next, Ok(value_of(sink_of(transfer), s, data))),
+        Reply::Error(code) => moved_on(transfer, Some(Stage::High), Err(BusError(code))),
     }
 }
 
 // The caller's buffer after a reply that fits: only data read for the caller changes it.
+#[tactic(auto, unfolding(crate::specs::Frame::taken_in))]
 pub fn take_in(frame: Frame, reply: Reply, s: &[u8], buffer: &mut [u8])
     ensures { buffer.new ≡ taken_in frame reply s.now buffer.old }
 {
-    let transfer = frame.transfer;
-    match reply {
-        Reply::Done => {}
-        Reply::Data => match sink_of(transfer) {
-            Sink::Number => {}
-            Sink::Buffer(at) => bytes::deliver(buffer, at, s),
-            Sink::Compare(_) => {}
-        },
-        Reply::Error(_) => {}
+    if let (Reply::Data, Sink::Buffer(at)) = (reply, sink_of(frame.transfer)) {
+        bytes::deliver(buffer, at, s);
     }
 }
 
 // One reply to the action that is out. One that does not fit changes nothing.
+#[tactic(auto, unfolding(crate::specs::Frame::exchange_of))]
 pub fn exchange(
     frame: Frame,
     reply: Reply,
@@ -160,24 +129,21 @@ pub fn exchange(
 ) -> Exchanged
     ensures { exchanged_to result scratch.new buffer.new ≡ exchange_of frame reply s.now scratch.old buffer.old «data».now }
 {
-    let awaited = frame::pending(frame);
-    if bus::fits(awaited, reply, s.len()) {
-        take_in(frame, reply, s, buffer);
-        match advance(frame, reply, s, data) {
-            Advanced::More(next) => {
-                let action = frame::give(next, scratch);
-                return Exchanged::Gave {
-                    frame: next,
-                    action: action,
-                };
-            }
-            Advanced::Over(outcome) => return Exchanged::Over(outcome),
-        }
+    if !bus::fits(frame::pending(frame), reply, s.len()) {
+        return Exchanged::Misfit;
     }
-    Exchanged::Misfit
+    take_in(frame, reply, s, buffer);
+    match advance(frame, reply, s, data) {
+        Advanced::More(frame) => Exchanged::Gave {
+            frame,
+            action: frame::give(frame, scratch),
+        },
+        Advanced::Over(outcome) => Exchanged::Over(outcome),
+    }
 }
 
 // How many bytes of the caller's buffer are delivered after a reply that fits, where `before` were.
+#[tactic(auto, unfolding(crate::specs::Frame::delivered_by))]
 pub fn delivered_by(
     frame: Frame,
     reply: Reply,
@@ -187,14 +153,8 @@ pub fn delivered_by(
 ) -> usize
     ensures { result ≡ delivered_by frame reply len buffer_len before }
 {
-    let transfer = frame.transfer;
-    match reply {
-        Reply::Done => before,
-        Reply::Data => match sink_of(transfer) {
-            Sink::Number => before,
-            Sink::Buffer(at) => bytes::end_of(at, len, buffer_len, before),
-            Sink::Compare(_) => before,
-        },
-        Reply::Error(_) => before,
+    match (reply, sink_of(frame.transfer)) {
+        (Reply::Data, Sink::Buffer(at)) => bytes::end_of(at, len, buffer_len, before),
+        _ => before,
     }
 }

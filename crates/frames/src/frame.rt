@@ -1,15 +1,14 @@
 // One transfer, action by action: the Rust's `command` and `command_then_read`, cut where the bus is called.
 // This module has what a frame gives out; `exchange` has what a reply does.
-ghost use Rattle.std.specs.Prelude.{◌≡◌, length};
-ghost use Rattle.qspi.specs.Command.{command_bytes};
-ghost use Rattle.frames.specs.Frame.{first_of, payload_part, with_payload, is_quad, start_action, command_action, body_action, payload_action, action_of, with_command_of, with_body, with_payload_of, given_scratch};
+ghost use Rattle.std.specs.Prelude.{◌≡◌};
+ghost use Rattle.frames.specs.Frame.{first_of, payload_part, command_part, with_payload, is_quad, start_action, command_action, body_action, payload_action, action_of, with_command_of, with_body, with_payload_of, given_scratch};
 
-use qspi::bus::{Action, Part};
+use qspi::bus::{Action, BusError, Part};
 use qspi::command::Command;
 use qspi::transfer::{Body, Payload, Transfer};
 use qspi::{bytes, command};
 
-// Which action of the transfer is out.
+// Which action of the transfer is out. Not a closure: the host holds the frame between two replies, and no function hands a closure out.
 #[derive(Clone, Copy)]
 pub enum Stage {
     Start,
@@ -18,11 +17,8 @@ pub enum Stage {
     High,
 }
 
-#[derive(Clone, Copy)]
-pub enum Outcome {
-    Value(u64),
-    Failed(u8),
-}
+// What the transfer came to so far: the number that was read, or the code of a failed call.
+pub type Outcome = Result<u64, BusError>;
 
 #[derive(Clone, Copy)]
 pub struct Frame {
@@ -31,12 +27,7 @@ pub struct Frame {
     pub outcome: Outcome,
 }
 
-#[derive(Clone, Copy)]
-pub enum Following {
-    To(Stage),
-    Over,
-}
-
+// Not a Result: neither variant is a failure, and the outcome of a transfer that is over is one itself.
 #[derive(Clone, Copy)]
 pub enum Advanced {
     More(Frame),
@@ -51,13 +42,14 @@ pub enum Exchanged {
     Over(Outcome),
 }
 
+#[tactic(auto, unfolding(crate::specs::Frame::first_of))]
 pub fn first(transfer: Transfer) -> Frame
     ensures { result ≡ first_of transfer }
 {
     Frame {
-        transfer: transfer,
+        transfer,
         stage: Stage::Start,
-        outcome: Outcome::Value(0),
+        outcome: Ok(0),
     }
 }
 
@@ -67,10 +59,7 @@ fn payload_part(payload: Payload) -> Part
     ensures { result ≡ payload_part payload }
 {
     match payload {
-        Payload::Data { from, len } => Part::Data {
-            from: from,
-            len: len,
-        },
+        Payload::Data { from, len } => Part::Data { from, len },
         Payload::Filler(n) => Part::Scratch {
             from: bytes::FILLER_AT,
             len: bytes::filler_len(n),
@@ -83,28 +72,19 @@ fn payload_part(payload: Payload) -> Part
 }
 
 fn command_part(command: Command) -> Part
-    ensures { result ≡ Part.Scratch 0 (length (command_bytes command)) }
+    ensures { result ≡ command_part command }
 {
-    let n = command::command_len(command);
-    Part::Scratch { from: 0, len: n }
+    Part::Scratch {
+        from: 0,
+        len: command::command_len(command),
+    }
 }
 
 // A quad call has the command with its data.
 pub fn is_quad(body: Body) -> bool
     ensures { result ≡ is_quad body }
 {
-    match body {
-        Body::None => false,
-        Body::Read { len: _, sink: _ } => false,
-        Body::Write(_) => false,
-        Body::QuadRead {
-            tclqv_ns: _,
-            margin: _,
-            len: _,
-            sink: _,
-        } => true,
-        Body::QuadWrite(_) => true,
-    }
+    matches!(body, Body::QuadRead { .. } | Body::QuadWrite(_))
 }
 
 fn start_action(transfer: Transfer) -> Action
@@ -113,10 +93,7 @@ fn start_action(transfer: Transfer) -> Action
     match transfer {
         Transfer::Raise => Action::SelectHigh,
         Transfer::Pause(us) => Action::Delay(us),
-        Transfer::Framed {
-            command: _,
-            body: _,
-        } => Action::SelectLow,
+        Transfer::Framed { .. } => Action::SelectLow,
     }
 }
 
@@ -124,14 +101,10 @@ fn command_action(transfer: Transfer) -> Action
     ensures { result ≡ command_action transfer }
 {
     match transfer {
-        Transfer::Raise => Action::SelectHigh,
-        Transfer::Pause(_) => Action::SelectHigh,
-        Transfer::Framed { command, body } => {
-            if is_quad(body) {
-                return Action::SelectHigh;
-            }
+        Transfer::Framed { command, body } if !is_quad(body) => {
             Action::Write(command_part(command))
         }
+        _ => Action::SelectHigh,
     }
 }
 
@@ -140,18 +113,18 @@ fn body_action(command: Command, body: Body) -> Action
 {
     match body {
         Body::None => Action::SelectHigh,
-        Body::Read { len, sink: _ } => Action::Read(len),
+        Body::Read { len, .. } => Action::Read(len),
         Body::Write(payload) => Action::Write(payload_part(payload)),
         Body::QuadRead {
             tclqv_ns,
             margin,
             len,
-            sink: _,
+            ..
         } => Action::QuadRead {
             command: command_part(command),
-            tclqv_ns: tclqv_ns,
-            margin: margin,
-            len: len,
+            tclqv_ns,
+            margin,
+            len,
         },
         Body::QuadWrite(payload) => Action::QuadWrite {
             command: command_part(command),
@@ -164,22 +137,20 @@ fn payload_action(transfer: Transfer) -> Action
     ensures { result ≡ payload_action transfer }
 {
     match transfer {
-        Transfer::Raise => Action::SelectHigh,
-        Transfer::Pause(_) => Action::SelectHigh,
+        Transfer::Raise | Transfer::Pause(_) => Action::SelectHigh,
         Transfer::Framed { command, body } => body_action(command, body),
     }
 }
 
 // The action that is out, whose reply is awaited.
+#[tactic(auto, unfolding(crate::specs::Frame::action_of))]
 pub fn pending(frame: Frame) -> Action
     ensures { result ≡ action_of frame }
 {
-    let stage = frame.stage;
-    let transfer = frame.transfer;
-    match stage {
-        Stage::Start => start_action(transfer),
-        Stage::Command => command_action(transfer),
-        Stage::Payload => payload_action(transfer),
+    match frame.stage {
+        Stage::Start => start_action(frame.transfer),
+        Stage::Command => command_action(frame.transfer),
+        Stage::Payload => payload_action(frame.transfer),
         Stage::High => Action::SelectHigh,
     }
 }
@@ -190,7 +161,7 @@ fn put_payload(payload: Payload, scratch: &mut [u8])
     ensures { scratch.new ≡ with_payload payload scratch.old }
 {
     match payload {
-        Payload::Data { from: _, len: _ } => {}
+        Payload::Data { .. } => {}
         Payload::Filler(n) => bytes::put_filler(scratch, n),
         Payload::Marker => bytes::put_marker(scratch),
     }
@@ -200,14 +171,10 @@ fn put_at_command(transfer: Transfer, scratch: &mut [u8])
     ensures { scratch.new ≡ with_command_of transfer scratch.old }
 {
     match transfer {
-        Transfer::Raise => {}
-        Transfer::Pause(_) => {}
-        Transfer::Framed { command, body } => {
-            if is_quad(body) {
-                return;
-            }
+        Transfer::Framed { command, body } if !is_quad(body) => {
             command::put_command(command, scratch);
         }
+        _ => {}
     }
 }
 
@@ -215,15 +182,9 @@ fn put_body(command: Command, body: Body, scratch: &mut [u8])
     ensures { scratch.new ≡ with_body command body scratch.old }
 {
     match body {
-        Body::None => {}
-        Body::Read { len: _, sink: _ } => {}
+        Body::None | Body::Read { .. } => {}
         Body::Write(payload) => put_payload(payload, scratch),
-        Body::QuadRead {
-            tclqv_ns: _,
-            margin: _,
-            len: _,
-            sink: _,
-        } => command::put_command(command, scratch),
+        Body::QuadRead { .. } => command::put_command(command, scratch),
         Body::QuadWrite(payload) => {
             command::put_command(command, scratch);
             put_payload(payload, scratch);
@@ -234,30 +195,21 @@ fn put_body(command: Command, body: Body, scratch: &mut [u8])
 fn put_at_payload(transfer: Transfer, scratch: &mut [u8])
     ensures { scratch.new ≡ with_payload_of transfer scratch.old }
 {
-    match transfer {
-        Transfer::Raise => {}
-        Transfer::Pause(_) => {}
-        Transfer::Framed { command, body } => put_body(command, body, scratch),
+    if let Transfer::Framed { command, body } = transfer {
+        put_body(command, body, scratch);
     }
 }
 
 // Gives the frame's action out, with its command, filler or marker put into the scratch.
+#[tactic(auto, unfolding(crate::specs::Frame::action_of, crate::specs::Frame::given_scratch))]
 pub fn give(frame: Frame, scratch: &mut [u8]) -> Action
     ensures value { result ≡ action_of frame }
     ensures scratch_after { scratch.new ≡ given_scratch frame scratch.old }
 {
-    let stage = frame.stage;
-    let transfer = frame.transfer;
-    match stage {
-        Stage::Start => start_action(transfer),
-        Stage::Command => {
-            put_at_command(transfer, scratch);
-            command_action(transfer)
-        }
-        Stage::Payload => {
-            put_at_payload(transfer, scratch);
-            payload_action(transfer)
-        }
-        Stage::High => Action::SelectHigh,
+    match frame.stage {
+        Stage::Start | Stage::High => {}
+        Stage::Command => put_at_command(frame.transfer, scratch),
+        Stage::Payload => put_at_payload(frame.transfer, scratch),
     }
+    pending(frame)
 }

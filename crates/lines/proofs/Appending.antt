@@ -1,37 +1,24 @@
 -- Text behind text.
-use Prim.Native.Nat.{ℕ}
-use mathlib.Core.Path.{◌≡◌, refl, ap, ◌∙◌}
-use mathlib.Core.List.{List, [], ◌∷◌, ◌++◌}
-use Rattle.lines.specs.Text.{Text, put_of, appended, hex_of}
-use Rattle.lines.specs.Line.{field_of, quad_read_line, quad_write_line}
+use Rattle.std.proofs.Common.{◌≡◌, ℕ, ◌+◌, ◌<◌, List, [], ◌∷◌, ◌++◌, length, take, get_or, refl, ap, sym, ◌∙◌, append-nil}
+use Rattle.std.specs.List.{flat_map}
+use Rattle.std.proofs.lemmas.List.{take_more}
+use Rattle.std.proofs.lemmas.Grind.{flat_map-append}
+use Rattle.lines.specs.Text.{Text, put_of, appended}
+use Rattle.lines.specs.Writing.{text_in, Appends}
+use Rattle.lines.specs.declared.text.Writer.{Writer}
 
-pub appended-behind : (xs ys : List ℕ) (t : Text) → appended (xs ++ ys) t ≡ appended ys (appended xs t)
+pub appended_behind : (xs ys : List ℕ) (t : Text) → appended (xs ++ ys) t ≡ appended ys (appended xs t)
 unfolding appended
-appended-behind [] ys t = refl
-appended-behind (x ∷ xs) ys t = appended-behind xs ys (put_of x t)
+appended_behind [] ys t = refl
+appended_behind (x ∷ xs) ys t = appended_behind xs ys (put_of x t)
 
--- ---- the lines of the quad calls, piece by piece
+-- what two writes have appended, as one list
+pub both_appended : {xs ys zs : List ℕ} {a b c : Writer} → Appends xs a b → Appends ys b c → zs ≡ xs ++ ys → Appends zs a c
+both_appended {xs} {ys} {zs} {a} p q e = record {
+  text = q.text ∙ ap (appended ys) p.text ∙ sym (rw e (appended_behind xs ys (text_in a)));
+  same = q.same ∙ p.same;
+}
 
-pub quad-write-text : (command payload : List ℕ) (t : Text) → appended (quad_write_line command payload) t ≡
-    put_of 10 (appended (hex_of payload) (appended (32 ∷ 58 ∷ []) (appended (hex_of command) (put_of 80 t))))
-unfolding appended quad_write_line
-quad-write-text command payload t =
-    let a : List ℕ = 80 ∷ hex_of command in
-    let b = a ++ 32 ∷ 58 ∷ [] in
-    let c = b ++ hex_of payload in
-    appended-behind c (10 ∷ []) t
-    ∙ ap (put_of 10) (appended-behind b (hex_of payload) t ∙ ap (appended (hex_of payload)) (appended-behind a (32 ∷ 58 ∷ []) t))
-
-pub quad-read-text : (command : List ℕ) (tclqv margin n : ℕ) (t : Text) → appended (quad_read_line command tclqv margin n) t ≡
-    put_of 10 (appended (field_of n) (appended (field_of margin) (appended (field_of tclqv) (appended (32 ∷ 58 ∷ []) (appended (hex_of command) (put_of 81 t))))))
-unfolding appended quad_read_line
-quad-read-text command tclqv margin n t =
-    let a : List ℕ = 81 ∷ hex_of command in
-    let b = a ++ 32 ∷ 58 ∷ [] in
-    let c = b ++ field_of tclqv in
-    let d = c ++ field_of margin in
-    let e = d ++ field_of n in
-    appended-behind e (10 ∷ []) t
-    ∙ ap (put_of 10) (appended-behind d (field_of n) t
-    ∙ ap (appended (field_of n)) (appended-behind c (field_of margin) t
-    ∙ ap (appended (field_of margin)) (appended-behind b (field_of tclqv) t ∙ ap (appended (field_of tclqv)) (appended-behind a (32 ∷ 58 ∷ []) t))))
+-- as many bytes of a list as a loop has come to, and the next
+pub one_more : (f : ℕ → List ℕ) (s : List ℕ) (i : ℕ) → i < length s → flat_map f (take (i + 1) s) ≡ flat_map f (take i s) ++ f (get_or s i 0)
+one_more f s i h = rw (take_more s i 0 h) (flat_map-append f (take i s) (get_or s i 0 ∷ []) ∙ ap (λ x. flat_map f (take i s) ++ x) (append-nil _))

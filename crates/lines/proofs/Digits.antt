@@ -1,18 +1,9 @@
 -- One more digit in front of those that are found.
-use Prim.Native.Nat.{ℕ, zero, suc, ◌+◌, ◌-◌, ◌/◌, ◌%◌, ◌≤◌, ◌<◌}
-use native.Mathlib.Omega.{arith}
+use Rattle.std.proofs.Common.{◌≡◌, ℕ, zero, suc, ◌+◌, ◌-◌, ◌/◌, ◌%◌, ◌≤◌, ◌<◌, List, [], ◌∷◌, ◌++◌, length, drop, set, refl, sym, append_assoc, add-one, arith}
 use native.Mathlib.Nat.{mod-eq_of_lt}
-use mathlib.Core.Path.{◌≡◌, refl, ap₂, sym, ◌∙◌}
-use mathlib.Core.List.{List, [], ◌∷◌, ◌++◌, append_assoc}
-use lib.ListN.{length, drop, set, length-set}
-use lib.Seq.{drop-cons, drop-set-lt, get_or-set_same}
 use borrow.Author.Tests.{lt-ltb, le-ltb}
+use Rattle.std.proofs.lemmas.List.{drop-set}
 use Rattle.lines.specs.Text.{digits_of}
-
-drop-set : (l : List ℕ) (j d : ℕ) → j < length l → drop j (set l j d) ≡ d ∷ drop (suc j) l
-drop-set l j d h =
-    drop-cons (set l j d) j 0 (simp length-set h)
-    ∙ ap₂ (λ x xs. x ∷ xs) (get_or-set_same l j d 0 h) (drop-set-lt (suc j) l j d (omega arith))
 
 module _ (digits : List ℕ) (left : ℕ) where
   -- there are more
@@ -22,7 +13,7 @@ module _ (digits : List ℕ) (left : ℕ) where
   more-digits zero h l m = absurd (omega arith)
   more-digits (suc j) h l m =
       let e : suc j - 1 ≡ j = omega arith in
-      rw (e, drop-set digits j (48 + left % 10) (omega arith), le-ltb left 10 m) (sym (append_assoc (digits_of j (left / 10)) ((48 + left % 10) ∷ []) (drop (suc j) digits)))
+      rw (e, drop-set digits j (48 + left % 10) (omega arith), add-one, le-ltb left 10 m) (sym (append_assoc (digits_of j (left / 10)) ((48 + left % 10) ∷ []) (drop (suc j) digits)))
 
   -- this is the first
   pub first-digit : (i : ℕ) → 1 ≤ i → i ≤ length digits → left < 10 → drop (i - 1) (set digits (i - 1) (48 + left % 10)) ≡ digits_of i left ++ drop i digits
@@ -30,7 +21,7 @@ module _ (digits : List ℕ) (left : ℕ) where
   first-digit zero h l m = absurd (omega arith)
   first-digit (suc j) h l m =
       let e : suc j - 1 ≡ j = omega arith in
-      rw (e, drop-set digits j (48 + left % 10) (omega arith), lt-ltb left 10 m, mod-eq_of_lt m) refl
+      rw (e, drop-set digits j (48 + left % 10) (omega arith), add-one, lt-ltb left 10 m, mod-eq_of_lt m) refl
 
   -- there is no room for more
   pub no_more : (i : ℕ) → i ≡ 0 → drop i digits ≡ digits_of i left ++ drop i digits

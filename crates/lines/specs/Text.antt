@@ -1,5 +1,6 @@
 -- Text in a slice: characters one behind the other, cut where there is no room.
 use Rattle.std.specs.Prelude.{ℕ, zero, suc, ◌+◌, ◌/◌, ◌%◌, List, [], ◌∷◌, ◌++◌, length, set, ltb}
+use Rattle.std.specs.List.{flat_map}
 use Rattle.qspi.specs.Choice.{pick}
 
 -- the slice, and the place behind the text in it
@@ -21,12 +22,14 @@ appended (b ∷ bs) t = appended bs (put_of b t)
 unfoldable pub digit_of : ℕ → ℕ
 digit_of n = pick (ltb (n % 16) 10) (48 + n % 16) (55 + n % 16)
 
-unfoldable pub hex_byte : ℕ → List ℕ
-hex_byte b = 32 ∷ digit_of (b / 16) ∷ digit_of b ∷ []
+unfoldable pub two_digits : ℕ → List ℕ
+two_digits b = digit_of (b / 16) ∷ digit_of b ∷ []
 
-unfoldable pub hex_of : List ℕ → List ℕ
-hex_of [] = []
-hex_of (b ∷ bs) = hex_byte b ++ hex_of bs
+abbrev pub hex_byte : ℕ → List ℕ
+hex_byte b = 32 ∷ two_digits b
+
+abbrev pub hex_of : List ℕ → List ℕ
+hex_of = flat_map hex_byte
 
 -- "R and n in decimal": the last digit behind those of a tenth; 20 digits hold a number of 64 bits
 unfoldable pub digits_of : ℕ → ℕ → List ℕ

@@ -1,83 +1,103 @@
 // Characters, bytes in hexadecimal and numbers in decimal, put into a slice one behind the other.
-ghost use Rattle.std.specs.Prelude.{◌≡◌};
-ghost use Rattle.lines.specs.Text.{text_of, put_of, appended, digit_of, hex_byte, hex_of, decimal_of};
+// They are put by hand: `write!` says what it wrote only where it gives Ok, and nothing says that it does.
+ghost use Rattle.std.specs.Prelude.{◌≡◌, ◌∷◌, [], take};
+ghost use Rattle.lines.specs.Text.{text_of, digit_of, two_digits, hex_of, decimal_of};
+ghost use Rattle.lines.specs.Writing.{text_in, SameRoom, Appends};
 
-pub const BLANK: u8 = 32;
+use qspi::bytes;
 
-pub const NEWLINE: u8 = 10;
+pub const BLANK: u8 = b' ';
 
-const ZERO: u8 = 48;
-// Ten below the letter A.
-const TEN: u8 = 55;
+pub const NEWLINE: u8 = b'\n';
+
 // As many digits as a number of 64 bits has.
 const DIGITS: usize = 20;
 
-// The place behind the character. Where there is no room, nothing changes.
-pub fn put(out: &mut [u8], at: usize, b: u8) -> usize
-    ensures { text_of out.new result ≡ put_of b (text_of out.old at) }
-{
-    if at < out.len() {
-        out[at] = b;
-        return at + 1;
-    }
-    at
-}
-
-pub fn put_all(out: &mut [u8], at: usize, s: &[u8]) -> usize
-    ensures { text_of out.new result ≡ appended s.now (text_of out.old at) }
-{
-    let mut behind = at;
-    let mut i = 0;
-    while i < s.len() {
-        behind = put(out, behind, s[i]);
-        i += 1;
-    }
-    behind
+// A slice, and how much of it the text so far takes.
+#[derive(Drop)]
+pub struct Writer<'a> {
+    pub room: &'a mut [u8],
+    pub len: usize,
 }
 
 // The upper-case hexadecimal digit of the low four bits.
+#[tactic(auto, unfolding(crate::specs::Text::digit_of))]
 pub fn digit(n: u8) -> u8
     ensures { result ≡ digit_of n }
 {
     let d = n % 16;
-    if d < 10 { ZERO + d } else { TEN + d }
+    if d < 10 { b'0' + d } else { b'A' - 10 + d }
 }
 
-// A blank and two digits.
-fn byte(out: &mut [u8], at: usize, b: u8) -> usize
-    ensures { text_of out.new result ≡ appended (hex_byte b) (text_of out.old at) }
-{
-    let high = put(out, at, BLANK);
-    let low = put(out, high, digit(b / 16));
-    put(out, low, digit(b))
-}
-
-pub fn hex(out: &mut [u8], at: usize, s: &[u8]) -> usize
-    ensures { text_of out.new result ≡ appended (hex_of s.now) (text_of out.old at) }
-{
-    let mut behind = at;
-    let mut i = 0;
-    while i < s.len() {
-        behind = byte(out, behind, s[i]);
-        i += 1;
+impl<'a> Writer<'a> {
+    // No text yet.
+    pub fn new(room: &'a mut [u8]) -> Writer<'a>
+        ensures same { result.room.ghost_name ≡ room.entry.ghost_name }
+        ensures text { text_in result ≡ text_of room.old 0 }
+    {
+        Writer { room, len: 0 }
     }
-    behind
-}
 
-// The digits of a number.
-pub fn decimal(out: &mut [u8], at: usize, n: u64) -> usize
-    ensures { text_of out.new result ≡ appended (decimal_of n) (text_of out.old at) }
-{
-    let mut digits = [0u8; 20];
-    let mut left = n;
-    let mut i = DIGITS;
-    while i > 0 {
-        i -= 1;
-        digits[i] = ZERO + (left % 10) as u8;
-        if left < 10 {
-            return put_all(out, at, &digits[i..]);
+    // Where there is no room, nothing changes.
+    #[tactic(auto, unfolding(crate::specs::Text::appended, crate::specs::Text::put_of))]
+    pub fn put(&mut self, b: u8)
+        ensures { Appends (b ∷ []) self.old self.new }
+    {
+        if self.len < self.room.len() {
+            self.room[self.len] = b;
+            self.len += 1;
         }
-        left = left / 10;
     }
-    put_all(out, at, &digits[i..])
+
+    #[tactic(auto, using(crate::proofs::Appending::appended_behind), unfolding(crate::specs::Text::appended))]
+    pub fn put_all(&mut self, s: &[u8])
+        ensures { Appends s.now self.old self.new }
+    {
+        for b in s {
+            self.put(*b);
+        }
+    }
+
+    // Two hexadecimal digits.
+    #[tactic(auto, using(crate::proofs::Appending::appended_behind), unfolding(crate::specs::Text::appended, crate::specs::Text::two_digits))]
+    pub fn byte(&mut self, b: u8)
+        ensures { Appends (two_digits b) self.old self.new }
+    {
+        self.put(digit(b / 16));
+        self.put(digit(b));
+    }
+
+    // A blank and two digits for each byte.
+    #[tactic(auto, using(crate::proofs::Appending::appended_behind), unfolding(crate::specs::Text::appended))]
+    pub fn hex(&mut self, s: &[u8])
+        ensures { Appends (hex_of s.now) self.old self.new }
+    {
+        for b in s {
+            self.put(BLANK);
+            self.byte(*b);
+        }
+    }
+
+    // The digits of a number.
+    pub fn decimal(&mut self, n: u64)
+        ensures { Appends (decimal_of n) self.old self.new }
+    {
+        let mut digits = [0u8; DIGITS];
+        let mut left = n;
+        for i in (0..DIGITS).rev() {
+            digits[i] = b'0' + (left % 10) as u8;
+            if left < 10 {
+                return self.put_all(&digits[i..]);
+            }
+            left /= 10;
+        }
+        self.put_all(&digits)
+    }
+
+    // The text so far.
+    pub fn written(&self) -> &[u8]
+        ensures { result.now ≡ take self.now.len self.now.room.now }
+    {
+        bytes::delivered(self.room, self.len)
+    }
 }

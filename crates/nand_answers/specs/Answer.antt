@@ -1,12 +1,11 @@
 -- The values of an answer, in the order in which a trace prints them.
-use Rattle.std.specs.Prelude.{ℕ, List, [], ◌∷◌, ◌++◌}
+use Rattle.spi_nand.specs.declared.config.NandQuadConfig.{NandQuadConfig}
+use Rattle.std.specs.Prelude.{ℕ, List, [], ◌∷◌, ◌++◌, Option, Some, None}
 use Rattle.values.specs.Value.{flag_value}
 use Rattle.spi_nand.specs.Status.{status_byte, configuration_byte, protection_byte}
-use Rattle.spi_nand.specs.declared.config.GeometrySetting.{GeometrySetting}
 use Rattle.spi_nand.specs.declared.config.NandGeometry.{NandGeometry}
 use Rattle.spi_nand.specs.declared.config.NandInit.{NandInit}
 use Rattle.spi_nand.specs.declared.config.NandJedecId.{NandJedecId}
-use Rattle.spi_nand.specs.declared.config.QuadSetting.{QuadSetting}
 use Rattle.nand_answers.specs.declared.answer.Answer.{Answer}
 
 -- "NAND manufacturer and device"
@@ -27,15 +26,18 @@ info_values info =
 abbrev pub geometry_values : NandGeometry → List ℕ
 geometry_values g = g.page_size ∷ g.oob_size ∷ g.pages_per_block ∷ g.block_count ∷ []
 
+abbrev pub quad_numbers : NandQuadConfig → List ℕ
+quad_numbers q = q.tclqv_ns ∷ q.read_cache_opcode ∷ q.load_program_opcode ∷ q.dummy_margin ∷ []
+
 -- "0, or 1 and the four quad numbers"
-abbrev pub quad_values : QuadSetting → List ℕ
-quad_values QuadSetting.Single = 0 ∷ []
-quad_values (QuadSetting.Quad q) = 1 ∷ q.tclqv_ns ∷ q.read_cache_opcode ∷ q.load_program_opcode ∷ q.dummy_margin ∷ []
+abbrev pub quad_values : Option NandQuadConfig → List ℕ
+quad_values None = 0 ∷ []
+quad_values (Some q) = 1 ∷ quad_numbers q
 
 -- "then 0, or 1 and the four of the caller's own"
-abbrev pub own_values : GeometrySetting → List ℕ
-own_values GeometrySetting.Detect = 0 ∷ []
-own_values (GeometrySetting.Given g) = 1 ∷ geometry_values g
+abbrev pub own_values : Option NandGeometry → List ℕ
+own_values None = 0 ∷ []
+own_values (Some g) = 1 ∷ geometry_values g
 
 abbrev pub answer_values : Answer → List ℕ
 answer_values Answer.Done = []

@@ -2,8 +2,7 @@
 use Rattle.std.specs.Prelude.{ℕ}
 use Rattle.spi_flash.specs.Ending.{Ending, ending_in, number_in}
 use Rattle.nand_answers.specs.Answer.{answer_values}
-use Rattle.nand_driver.specs.Settle.{given_as}
-use Rattle.nand_driver.specs.declared.state.Given.{Given}
+use Rattle.nand_driver.specs.Settle.{Given, given_as}
 
 abbrev pub ending_of : Given → Ending
 ending_of given = ending_in answer_values (given_as given)

@@ -1,3 +1,4 @@
 pub mod Settle
 pub mod Call
+pub mod Step
 pub mod Answer

@@ -1,8 +1,5 @@
 // SpiNandFlash (nand/driver.rs) as a machine that the host steps: each bus call of the Rust is an action given out.
 #![tactic(auto)]
 
-pub mod call;
-pub mod ending;
 pub mod named;
-pub mod settle;
-pub mod state;
+pub mod part;

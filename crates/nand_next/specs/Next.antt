@@ -1,8 +1,9 @@
 -- What follows each transfer of a call: nand/driver.rs, cut where it uses the bus.
-use Rattle.std.specs.Prelude.{Bool, true, false, ℕ, ◌%◌}
+use Rattle.std.specs.Prelude.{Bool, true, false, ℕ, Ok, Err}
 use Rattle.qspi.specs.Choice.{pick}
 use Rattle.qspi.specs.declared.transfer.Payload.{Payload}
-use Rattle.frames.specs.declared.frame.Outcome.{Outcome}
+use Rattle.qspi.specs.Bytes.{byte_of}
+use Rattle.frames.specs.Frame.{Outcome}
 use Rattle.spi_flash.specs.declared.error.FlashError.{FlashError}
 use Rattle.spi_nand.specs.Command.{set_feature_command, block_erase_command}
 use Rattle.spi_nand.specs.Config.{first_page_of}
@@ -27,12 +28,8 @@ use Rattle.nand_steps.specs.Go.{end_with, done, look, send, reset}
 use Rattle.nand_pages.specs.Page.{program_then}
 use Rattle.nand_ranges.specs.Read.{piece_read_then}
 use Rattle.nand_steps.specs.Register.{id_of, identified_then, configure_then, check_configuration, unprotect_then, brought_up, disable_quad, quad_disabled}
-use Rattle.nand_steps.specs.declared.then.Then.{Then}
+use Rattle.nand_steps.specs.Then.{Then}
 use Rattle.nand_next.specs.Wait.{waiting_then}
-
--- buffer[0] of a register's one byte
-abbrev pub byte_of : ℕ → ℕ
-byte_of v = v % 256
 
 -- ---- write_enable, and what it is for
 
@@ -58,7 +55,7 @@ enabled_then setup (EnableFor.MarkBad block) = fill_from setup block 0
 
 -- write_enable: `if !self.read_status()?.write_enabled()`
 unfoldable pub latched_then : Setup → EnableFor → Status → Then
-latched_then setup why status = pick (write_enabled_of status) (enabled_then setup why) (Then.Fail FlashError.WriteEnableFailed)
+latched_then setup why status = pick (write_enabled_of status) (enabled_then setup why) (Err FlashError.WriteEnableFailed)
 
 -- what follows each step of write_enable
 unfoldable pub enabling_then : Setup → EnableFor → EnableStep → Status → Then
@@ -95,7 +92,7 @@ after_phase setup (Phase.Waiting task at waited) v = waiting_then setup task at 
 after_phase setup Phase.ReadingCache v = done setup
 after_phase setup Phase.Comparing v = compared_then setup v
 after_phase setup (Phase.ReadingMarker why) v = marker_then setup why (byte_of v)
-after_phase setup (Phase.Reading offset n before) v = piece_read_then setup offset n before
+after_phase setup (Phase.Reading s) v = piece_read_then setup s.offset s.len s.done
 after_phase setup Phase.LoadingData v = done setup
 after_phase setup (Phase.LoadingPage page) v = program_then setup page (ProgramFor.WritePage page)
 after_phase setup (Phase.LoadingFiller block column) v = filled_then setup block column
@@ -103,5 +100,5 @@ after_phase setup (Phase.LoadingMarker block) v = mark_then setup block
 
 -- a bus error ends the call: `map_err(FlashError::Spi)?`
 unfoldable pub next_of : Setup → Phase → Outcome → Then
-next_of setup phase (Outcome.Value v) = after_phase setup phase v
-next_of setup phase (Outcome.Failed code) = Then.Fail (FlashError.Spi code)
+next_of setup phase (Ok v) = after_phase setup phase v
+next_of setup phase (Err error) = Err (FlashError.Spi error.0)

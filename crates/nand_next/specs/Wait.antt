@@ -1,5 +1,5 @@
 -- wait_ready (nand/driver.rs), cut where it uses the bus, and what goes on behind it.
-use Rattle.std.specs.Prelude.{ℕ}
+use Rattle.std.specs.Prelude.{ℕ, Err}
 use Rattle.qspi.specs.declared.transfer.Transfer.{Transfer}
 use Rattle.spi_flash.specs.Wait.{first_wait, next_wait}
 use Rattle.spi_flash.specs.declared.error.FlashError.{FlashError}
@@ -17,7 +17,7 @@ use Rattle.nand_steps.specs.Go.{go_to, done, ask_id, look, verdict}
 use Rattle.nand_ranges.specs.Block.{erased_then}
 use Rattle.nand_pages.specs.Page.{loaded_then, judged_then, programmed_then}
 use Rattle.nand_steps.specs.Register.{written_then}
-use Rattle.nand_steps.specs.declared.then.Then.{Then}
+use Rattle.nand_steps.specs.Then.{Then}
 
 -- reset, reset_and_identify
 unfoldable pub reset_then : Setup → ResetFor → Then
@@ -53,7 +53,7 @@ unfoldable pub wait_then : Setup → Task → Wait → Then
 wait_then setup task Wait.Look = look_then setup task 0
 wait_then setup task (Wait.Pause us waited) = pause_then setup task us waited
 wait_then setup task Wait.Ready = resume_task setup task
-wait_then setup task Wait.Timeout = Then.Fail FlashError.Timeout
+wait_then setup task Wait.Timeout = Err FlashError.Timeout
 
 -- the first step, and the one behind a look
 abbrev pub sent_then : Setup → Task → Then

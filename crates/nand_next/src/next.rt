@@ -2,7 +2,7 @@
 ghost use Rattle.std.specs.Prelude.{◌≡◌};
 ghost use Rattle.nand_phases.specs.BringUp.{in_bring_up};
 ghost use Rattle.nand_steps.specs.Go.{look, reset};
-ghost use Rattle.nand_next.specs.Next.{byte_of, write_then, load_page_then, start_erase, enabled_then, latched_then, enabling_then, identify_then, answered_then, after_phase, next_of};
+ghost use Rattle.nand_next.specs.Next.{write_then, load_page_then, start_erase, enabled_then, latched_then, enabling_then, identify_then, answered_then, after_phase, next_of};
 
 use crate::wait;
 use frames::frame::Outcome;
@@ -15,17 +15,12 @@ use nand_phases::setup::Setup;
 use nand_ranges::{block, read};
 use nand_steps::then::Then;
 use nand_steps::{go, register};
+use qspi::bytes;
 use qspi::transfer::Payload;
 use spi_flash::error::FlashError;
 use spi_nand::command;
 use spi_nand::config::NandJedecId;
 use spi_nand::status::{Configuration, Protection, Status};
-
-fn byte(v: u64) -> u8
-    ensures { result ≡ byte_of v }
-{
-    (v % 256) as u8
-}
 
 // ---- write_enable, and what it is for
 
@@ -64,19 +59,20 @@ fn start_erase(setup: Setup, block: usize, why: EraseFor) -> Then
     )
 }
 
+#[tactic(auto, unfolding(crate::specs::Next::enabled_then))]
 fn enabled(setup: Setup, why: EnableFor) -> Then
     ensures { result ≡ enabled_then setup why }
 {
     match why {
-        EnableFor::Call => return go::done(setup),
+        EnableFor::Call => go::done(setup),
         EnableFor::Register {
             register,
             value,
             why,
-        } => return write(setup, register, value, why),
-        EnableFor::WritePage(page) => return load_page(setup, page),
-        EnableFor::Erase { block, why } => return start_erase(setup, block, why),
-        EnableFor::MarkBad(block) => return block::fill(setup, block, 0),
+        } => write(setup, register, value, why),
+        EnableFor::WritePage(page) => load_page(setup, page),
+        EnableFor::Erase { block, why } => start_erase(setup, block, why),
+        EnableFor::MarkBad(block) => block::fill(setup, block, 0),
     }
 }
 
@@ -86,33 +82,36 @@ fn latch(setup: Setup, why: EnableFor) -> Then
     go::look(
         setup,
         Phase::Enabling {
-            why: why,
+            why,
             at: EnableStep::Latch,
         },
     )
 }
 
+#[tactic(auto, unfolding(crate::specs::Next::latched_then))]
 fn latched(setup: Setup, why: EnableFor, status: Status) -> Then
     ensures { result ≡ latched_then setup why status }
 {
     if status.write_enabled() {
         return enabled(setup, why);
     }
-    Then::Fail(FlashError::WriteEnableFailed)
+    Err(FlashError::WriteEnableFailed)
 }
 
 // What follows each step of write_enable.
+#[tactic(auto, unfolding(crate::specs::Next::enabling_then))]
 fn enabling(setup: Setup, why: EnableFor, at: EnableStep, status: Status) -> Then
     ensures { result ≡ enabling_then setup why at status }
 {
     match at {
-        EnableStep::Command => return latch(setup, why),
-        EnableStep::Latch => return latched(setup, why, status),
+        EnableStep::Command => latch(setup, why),
+        EnableStep::Latch => latched(setup, why, status),
     }
 }
 
 // ---- what was asked
 
+#[tactic(auto, unfolding(crate::specs::Next::identify_then))]
 fn identify(setup: Setup, id: NandJedecId, bring_up: bool) -> Then
     ensures { result ≡ identify_then setup id bring_up }
 {
@@ -123,36 +122,35 @@ fn identify(setup: Setup, id: NandJedecId, bring_up: bool) -> Then
 }
 
 // The value of the register that was asked for.
+#[tactic(auto, unfolding(crate::specs::Next::answered_then))]
 fn answered(setup: Setup, asked: Asked, v: u64) -> Then
     ensures { result ≡ answered_then setup asked v }
 {
-    let b = byte(v);
+    let b = bytes::byte(v);
     match asked {
-        Asked::Status => return go::end(setup, Answer::Status(Status::from_byte(b))),
+        Asked::Status => go::end(setup, Answer::Status(Status::from_byte(b))),
         Asked::Configuration => {
-            return go::end(setup, Answer::Configuration(Configuration::from_byte(b)));
+            go::end(setup, Answer::Configuration(Configuration::from_byte(b)))
         }
-        Asked::Protection => {
-            return go::end(setup, Answer::Protection(Protection::from_byte(b)));
-        }
-        Asked::Id { bring_up } => return identify(setup, register::id_of(v), bring_up),
+        Asked::Protection => { go::end(setup, Answer::Protection(Protection::from_byte(b))) }
+        Asked::Id { bring_up } => identify(setup, register::id_of(v), bring_up),
         Asked::Configure { bring_up } => {
-            return register::configure(setup, Configuration::from_byte(b), bring_up);
+            register::configure(setup, Configuration::from_byte(b), bring_up)
         }
         Asked::Configured { before, bring_up } => {
-            return register::check_configuration(
+            register::check_configuration(
                 setup,
                 Configuration::from_byte(before),
                 bring_up,
                 Configuration::from_byte(b),
-            );
+            )
         }
         Asked::Unprotect { bring_up } => {
-            return register::unprotect(setup, Protection::from_byte(b), bring_up);
+            register::unprotect(setup, Protection::from_byte(b), bring_up)
         }
-        Asked::BroughtUp => return register::brought_up(setup, Configuration::from_byte(b)),
-        Asked::DisableQuad => return register::disable_quad(setup, Configuration::from_byte(b)),
-        Asked::QuadDisabled => return register::quad_disabled(setup, Configuration::from_byte(b)),
+        Asked::BroughtUp => register::brought_up(setup, Configuration::from_byte(b)),
+        Asked::DisableQuad => register::disable_quad(setup, Configuration::from_byte(b)),
+        Asked::QuadDisabled => register::quad_disabled(setup, Configuration::from_byte(b)),
     }
 }
 
@@ -165,38 +163,33 @@ fn raised(setup: Setup) -> Then
     go::reset(setup, ResetFor::Identify { bring_up: true })
 }
 
+#[tactic(auto, unfolding(crate::specs::Next::after_phase))]
 fn after(setup: Setup, phase: Phase, v: u64) -> Then
     ensures { result ≡ after_phase setup phase v }
 {
-    let b = byte(v);
+    let b = bytes::byte(v);
     match phase {
-        Phase::Raised => return raised(setup),
-        Phase::Asking(asked) => return answered(setup, asked, v),
-        Phase::Enabling { why, at } => return enabling(setup, why, at, Status::from_byte(b)),
+        Phase::Raised => raised(setup),
+        Phase::Asking(asked) => answered(setup, asked, v),
+        Phase::Enabling { why, at } => enabling(setup, why, at, Status::from_byte(b)),
         Phase::Waiting { task, at, waited } => {
-            return wait::waiting(setup, task, at, waited, Status::from_byte(b));
+            wait::waiting(setup, task, at, waited, Status::from_byte(b))
         }
-        Phase::ReadingCache => return go::done(setup),
-        Phase::Comparing => return cache::compared(setup, v),
-        Phase::ReadingMarker(why) => return block::marker(setup, why, b),
-        Phase::Reading { offset, len, done } => {
-            return read::piece_read(setup, offset, len, done);
-        }
-        Phase::LoadingData => return go::done(setup),
-        Phase::LoadingPage(page) => {
-            return page::program(setup, page, ProgramFor::WritePage(page));
-        }
-        Phase::LoadingFiller { block, column } => return block::filled(setup, block, column),
-        Phase::LoadingMarker(block) => return block::mark(setup, block),
+        Phase::ReadingCache => go::done(setup),
+        Phase::Comparing => cache::compared(setup, v),
+        Phase::ReadingMarker(why) => block::marker(setup, why, b),
+        Phase::Reading(span) => read::piece_read(setup, span),
+        Phase::LoadingData => go::done(setup),
+        Phase::LoadingPage(page) => { page::program(setup, page, ProgramFor::WritePage(page)) }
+        Phase::LoadingFiller { block, column } => block::filled(setup, block, column),
+        Phase::LoadingMarker(block) => block::mark(setup, block),
     }
 }
 
 // What follows a transfer's outcome. A bus error ends the call.
+#[tactic(auto, unfolding(crate::specs::Next::next_of))]
 pub fn next(setup: Setup, phase: Phase, outcome: Outcome) -> Then
     ensures { result ≡ next_of setup phase outcome }
 {
-    match outcome {
-        Outcome::Value(v) => return after(setup, phase, v),
-        Outcome::Failed(code) => return Then::Fail(FlashError::Spi(code)),
-    }
+    after(setup, phase, outcome?)
 }

@@ -1,9 +1,12 @@
 -- How each call begins (nand/driver.rs), with a buffer and data of these lengths.
-use Rattle.std.specs.Prelude.{ℕ}
+use Rattle.std.specs.Prelude.{ℕ, Option, Some, None}
 use Rattle.qspi.specs.declared.transfer.Payload.{Payload}
 use Rattle.qspi.specs.declared.transfer.Sink.{Sink}
-use Rattle.spi_flash.specs.declared.loan.Takes.{Takes}
-use Rattle.spi_nand.specs.Config.{single_config}
+use Rattle.machine.specs.Then.{plain, filling, sending}
+use Rattle.machine.specs.declared.then.Opening.{Opening}
+use Rattle.spi_nand.specs.Config.{W25N01GV, single_config, UNKNOWN}
+use Rattle.spi_nand.specs.declared.config.NandGeometry.{NandGeometry}
+use Rattle.spi_nand.specs.declared.config.SpiNandConfig.{SpiNandConfig}
 use Rattle.spi_nand.specs.Opcode.{REG-STATUS, REG-CONFIGURATION, REG-BLOCK-PROTECTION}
 use Rattle.nand_answers.specs.declared.answer.Answer.{Answer}
 use Rattle.nand_phases.specs.BringUp.{its_own}
@@ -23,23 +26,22 @@ use Rattle.nand_pages.specs.Cache.{read_cache_then, load_program_then}
 use Rattle.nand_steps.specs.Go.{ask, ask_id, reset, enable}
 use Rattle.nand_pages.specs.Page.{page_read_then, is_bad_then, program_then, read_page_then, write_page_then}
 use Rattle.nand_ranges.specs.Read.{read_then}
-use Rattle.nand_steps.specs.declared.then.Then.{Then}
-use Rattle.nand_opening.specs.declared.opening.Opening.{Opening}
 
--- a call that takes nothing, the caller's buffer, the caller's data
-abbrev pub plain : Then → Opening
-plain then = Opening.Uses Takes.Nothing then
+-- with_config: what stands in the struct before the id is known
+abbrev pub given_at : Option NandGeometry → NandGeometry
+given_at None = W25N01GV
+given_at (Some geometry) = geometry
 
-abbrev pub filling : ℕ → Then → Opening
-filling n then = Opening.Uses (Takes.Buffer n) then
+abbrev pub given_geometry : SpiNandConfig → NandGeometry
+given_geometry config = given_at config.geometry
 
-abbrev pub sending : ℕ → Then → Opening
-sending n then = Opening.Uses (Takes.Data n) then
+abbrev pub fresh_setup : SpiNandConfig → Setup
+fresh_setup config = record { config = config; geometry = given_geometry config; init = UNKNOWN }
 
 -- what the call is to a driver at rest that holds this; mark_bad_block tests its block and so does the is_bad_block in it: one test
-unfoldable pub opening_of : Setup → Call → ℕ → ℕ → Opening
-opening_of setup Call.New b d = Opening.Constructs single_config
-opening_of setup (Call.WithConfig config) b d = Opening.Constructs config
+unfoldable pub opening_of : Setup → Call → ℕ → ℕ → Opening Setup Phase Answer
+opening_of setup Call.New b d = Opening.Constructs (fresh_setup single_config)
+opening_of setup (Call.WithConfig config) b d = Opening.Constructs (fresh_setup config)
 opening_of setup Call.Info b d = Opening.Tells (Answer.Info setup.init)
 opening_of setup Call.Config b d = Opening.Tells (Answer.Config setup.config)
 opening_of setup Call.Geometry b d = Opening.Tells (Answer.Geometry setup.geometry)

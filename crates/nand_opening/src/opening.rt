@@ -1,12 +1,9 @@
 // How each call begins.
 ghost use Rattle.std.specs.Prelude.{◌≡◌};
-ghost use Rattle.nand_phases.specs.BringUp.{its_own};
-ghost use Rattle.nand_ranges.specs.Block.{erase_then};
+ghost use Rattle.machine.specs.Then.{plain, filling, sending};
 ghost use Rattle.nand_pages.specs.Cache.{read_cache_then, load_program_then};
-ghost use Rattle.nand_steps.specs.Go.{ask, ask_id, reset, enable};
-ghost use Rattle.nand_pages.specs.Page.{page_read_then, is_bad_then, program_then, read_page_then, write_page_then};
-ghost use Rattle.nand_ranges.specs.Read.{read_then};
-ghost use Rattle.nand_opening.specs.Opening.{plain, filling, sending, opening_of};
+ghost use Rattle.nand_steps.specs.Go.{ask};
+ghost use Rattle.nand_opening.specs.Opening.{given_geometry, fresh_setup, opening_of};
 
 use nand_answers::answer::Answer;
 use nand_pages::{cache, page};
@@ -17,229 +14,129 @@ use nand_phases::phase::{
 use nand_phases::setup::Setup;
 use nand_ranges::{block, read};
 use nand_steps::go;
-use nand_steps::then::Then;
+use nand_steps::then::Opening;
 use qspi::transfer::{Payload, Sink};
-use spi_flash::loan::Takes;
-use spi_nand::config::SpiNandConfig;
+use spi_nand::config::{NandGeometry, NandInit, SpiNandConfig};
 use spi_nand::opcode;
 
-// What a call is to a driver at rest.
-#[derive(Clone, Copy)]
-pub enum Opening {
-    Constructs(SpiNandConfig),
-    // It only tells what the driver holds.
-    Tells(Answer),
-    Releases,
-    // Its first transfer or the Rust's own refusal, and what it takes.
-    Uses { takes: Takes, then: Then },
+// The geometry before the id is known.
+fn given_geometry(config: SpiNandConfig) -> NandGeometry
+    ensures { result ≡ given_geometry config }
+{
+    config.geometry.unwrap_or(NandGeometry::W25N01GV)
 }
 
-// ---- what the driver holds
-
-fn info(setup: Setup) -> Opening
-    ensures { result ≡ Opening.Tells (Answer.Info setup.init) }
+// What the driver holds before the id is known.
+pub fn fresh(config: SpiNandConfig) -> Setup
+    ensures { result ≡ fresh_setup config }
 {
-    let init = setup.init;
-    Opening::Tells(Answer::Info(init))
-}
-
-fn config(setup: Setup) -> Opening
-    ensures { result ≡ Opening.Tells (Answer.Config setup.config) }
-{
-    let config = setup.config;
-    Opening::Tells(Answer::Config(config))
-}
-
-fn geometry(setup: Setup) -> Opening
-    ensures { result ≡ Opening.Tells (Answer.Geometry setup.geometry) }
-{
-    let geometry = setup.geometry;
-    Opening::Tells(Answer::Geometry(geometry))
-}
-
-// ---- what a call takes
-
-fn plain(then: Then) -> Opening
-    ensures { result ≡ plain «then» }
-{
-    Opening::Uses {
-        takes: Takes::Nothing,
-        then: then,
+    Setup {
+        config,
+        geometry: given_geometry(config),
+        init: NandInit::UNKNOWN,
     }
 }
 
-fn filling(len: usize, then: Then) -> Opening
-    ensures { result ≡ filling len «then» }
-{
-    Opening::Uses {
-        takes: Takes::Buffer(len),
-        then: then,
-    }
-}
-
-fn sending(len: usize, then: Then) -> Opening
-    ensures { result ≡ sending len «then» }
-{
-    Opening::Uses {
-        takes: Takes::Data(len),
-        then: then,
-    }
-}
-
-// ---- registers
-
+// A read of a register.
 fn asks(setup: Setup, register: u8, asked: Asked) -> Opening
     ensures { result ≡ plain (ask setup register asked) }
 {
-    plain(go::ask(setup, register, asked))
-}
-
-fn enables(setup: Setup, why: EnableFor) -> Opening
-    ensures { result ≡ plain (enable setup why) }
-{
-    plain(go::enable(setup, why))
-}
-
-fn resets(setup: Setup, why: ResetFor) -> Opening
-    ensures { result ≡ plain (reset setup why) }
-{
-    plain(go::reset(setup, why))
-}
-
-fn jedec_id(setup: Setup) -> Opening
-    ensures { result ≡ plain (ask_id setup its_own) }
-{
-    plain(go::ask_id(setup, false))
-}
-
-// ---- pages
-
-fn page_read(setup: Setup, page: usize) -> Opening
-    ensures { result ≡ plain (page_read_then setup page LoadFor.PageRead) }
-{
-    plain(page::page_read(setup, page, LoadFor::PageRead))
+    Opening::plain(go::ask(setup, register, asked))
 }
 
 fn read_cache(setup: Setup, column: usize, len: usize) -> Opening
     ensures { result ≡ filling len (read_cache_then setup column len (Sink.Buffer 0) Phase.ReadingCache) }
 {
-    filling(
+    let sink = Sink::Buffer(0);
+    Opening::filling(
         len,
-        cache::read_cache(setup, column, len, Sink::Buffer(0), Phase::ReadingCache),
+        cache::read_cache(setup, column, len, sink, Phase::ReadingCache),
     )
 }
 
 fn load_program_data(setup: Setup, column: usize, len: usize) -> Opening
     ensures { result ≡ sending len (load_program_then setup column (Payload.Data 0 len) Phase.LoadingData) }
 {
-    sending(
+    let payload = Payload::Data { from: 0, len };
+    Opening::sending(
         len,
-        cache::load_program_data(
-            setup,
-            column,
-            Payload::Data { from: 0, len: len },
-            Phase::LoadingData,
-        ),
+        cache::load_program_data(setup, column, payload, Phase::LoadingData),
     )
 }
 
-fn program_execute(setup: Setup, page: usize) -> Opening
-    ensures { result ≡ plain (program_then setup page ProgramFor.Call) }
-{
-    plain(page::program(setup, page, ProgramFor::Call))
-}
-
-fn read_page(setup: Setup, page: usize, len: usize) -> Opening
-    ensures { result ≡ filling len (read_page_then setup page len) }
-{
-    filling(len, page::read_page(setup, page, len))
-}
-
-fn write_page(setup: Setup, page: usize, len: usize) -> Opening
-    ensures { result ≡ sending len (write_page_then setup page len) }
-{
-    sending(len, page::write_page(setup, page, len))
-}
-
-fn read(setup: Setup, offset: usize, len: usize) -> Opening
-    ensures { result ≡ filling len (read_then setup offset len) }
-{
-    filling(len, read::read(setup, offset, len))
-}
-
-// ---- blocks
-
-fn erase_block(setup: Setup, block: usize) -> Opening
-    ensures { result ≡ plain (erase_then setup block EraseFor.Call) }
-{
-    plain(block::erase_block(setup, block, EraseFor::Call))
-}
-
-fn looks_at_marker(setup: Setup, block: usize, why: MarkerFor) -> Opening
-    ensures { result ≡ plain (is_bad_then setup block why) }
-{
-    plain(page::is_bad_block(setup, block, why))
-}
-
-// ---- each call, with a buffer and data of these lengths
-
+// Each call, with a buffer and data of these lengths.
+#[tactic(auto, unfolding(crate::specs::Opening::opening_of))]
 pub fn opening_of(setup: Setup, call: Call, buffer_len: usize, data_len: usize) -> Opening
     ensures { result ≡ opening_of setup call buffer_len data_len }
 {
     match call {
-        Call::New => return Opening::Constructs(SpiNandConfig::single()),
-        Call::WithConfig(c) => return Opening::Constructs(c),
-        Call::Info => return info(setup),
-        Call::Config => return config(setup),
-        Call::Geometry => return geometry(setup),
-        Call::Free => return Opening::Releases,
-        Call::DisableQuad => return asks(setup, opcode::REG_CONFIGURATION, Asked::DisableQuad),
+        Call::New => Opening::Constructs(fresh(SpiNandConfig::single())),
+        Call::WithConfig(config) => Opening::Constructs(fresh(config)),
+        Call::Info => Opening::Tells(Answer::Info(setup.init)),
+        Call::Config => Opening::Tells(Answer::Config(setup.config)),
+        Call::Geometry => Opening::Tells(Answer::Geometry(setup.geometry)),
+        Call::Free => Opening::Releases,
+        Call::DisableQuad => asks(setup, opcode::REG_CONFIGURATION, Asked::DisableQuad),
         Call::WriteRegister { register, value } => {
-            return enables(
+            let why = RegisterFor::Call;
+            Opening::plain(go::enable(
                 setup,
                 EnableFor::Register {
-                    register: register,
-                    value: value,
-                    why: RegisterFor::Call,
+                    register,
+                    value,
+                    why,
                 },
-            );
+            ))
         }
-        Call::WriteEnable => return enables(setup, EnableFor::Call),
-        Call::ReadStatus => return asks(setup, opcode::REG_STATUS, Asked::Status),
-        Call::ReadConfiguration => {
-            return asks(setup, opcode::REG_CONFIGURATION, Asked::Configuration);
+        Call::WriteEnable => Opening::plain(go::enable(setup, EnableFor::Call)),
+        Call::ReadStatus => asks(setup, opcode::REG_STATUS, Asked::Status),
+        Call::ReadConfiguration => asks(setup, opcode::REG_CONFIGURATION, Asked::Configuration),
+        Call::ReadProtection => asks(setup, opcode::REG_BLOCK_PROTECTION, Asked::Protection),
+        Call::Reset => Opening::plain(go::reset(setup, ResetFor::Reset)),
+        Call::JedecId => Opening::plain(go::ask_id(setup, false)),
+        Call::ResetAndIdentify => {
+            Opening::plain(go::reset(setup, ResetFor::Identify { bring_up: false }))
         }
-        Call::ReadProtection => {
-            return asks(setup, opcode::REG_BLOCK_PROTECTION, Asked::Protection);
-        }
-        Call::Reset => return resets(setup, ResetFor::Reset),
-        Call::JedecId => return jedec_id(setup),
-        Call::ResetAndIdentify => return resets(setup, ResetFor::Identify { bring_up: false }),
         Call::EnsureConfiguration => {
-            return asks(
+            asks(
                 setup,
                 opcode::REG_CONFIGURATION,
                 Asked::Configure { bring_up: false },
-            );
+            )
         }
         Call::Unprotect => {
-            return asks(
+            asks(
                 setup,
                 opcode::REG_BLOCK_PROTECTION,
                 Asked::Unprotect { bring_up: false },
-            );
+            )
         }
-        Call::PageRead { page } => return page_read(setup, page),
-        Call::ReadCache { column } => return read_cache(setup, column, buffer_len),
-        Call::LoadProgramData { column } => return load_program_data(setup, column, data_len),
-        Call::ProgramExecute { page } => return program_execute(setup, page),
-        Call::ReadPage { page } => return read_page(setup, page, buffer_len),
-        Call::WritePage { page } => return write_page(setup, page, data_len),
-        Call::EraseBlock { block } => return erase_block(setup, block),
-        Call::Read { offset } => return read(setup, offset, buffer_len),
-        Call::IsBadBlock { block } => return looks_at_marker(setup, block, MarkerFor::Call),
+        Call::PageRead { page } => Opening::plain(page::page_read(setup, page, LoadFor::PageRead)),
+        Call::ReadCache { column } => read_cache(setup, column, buffer_len),
+        Call::LoadProgramData { column } => load_program_data(setup, column, data_len),
+        Call::ProgramExecute { page } => Opening::plain(page::program(
+            setup,
+            page,
+            ProgramFor::Call,
+        )),
+        Call::ReadPage { page } => {
+            Opening::filling(buffer_len, page::read_page(setup, page, buffer_len))
+        }
+        Call::WritePage { page } => {
+            Opening::sending(data_len, page::write_page(setup, page, data_len))
+        }
+        Call::EraseBlock { block } => {
+            Opening::plain(block::erase_block(setup, block, EraseFor::Call))
+        }
+        Call::Read { offset } => Opening::filling(
+            buffer_len,
+            read::read(setup, offset, buffer_len),
+        ),
+        Call::IsBadBlock { block } => {
+            Opening::plain(page::is_bad_block(setup, block, MarkerFor::Call))
+        }
         Call::MarkBadBlock { block } => {
-            return looks_at_marker(setup, block, MarkerFor::Check(block));
+            Opening::plain(page::is_bad_block(setup, block, MarkerFor::Check(block)))
         }
     }
 }

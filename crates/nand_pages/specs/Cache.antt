@@ -1,19 +1,20 @@
 -- The chip's cache (nand/driver.rs: read_cache, load_program_data), cut where it uses the bus.
-use Rattle.std.specs.Prelude.{ℕ, Bool, eqb}
+use Rattle.std.specs.Prelude.{ℕ, Bool, eqb, Err}
 use Rattle.qspi.specs.Choice.{pick}
 use Rattle.qspi.specs.declared.transfer.Payload.{Payload}
 use Rattle.qspi.specs.declared.transfer.Sink.{Sink}
+use Rattle.spi_flash.specs.Range.{span}
 use Rattle.spi_flash.specs.declared.error.FlashError.{FlashError}
 use Rattle.nand_phases.specs.Transfer.{cache_read_transfer, cache_load_transfer, in_cache, place_of, column_at, chunk_of}
 use Rattle.nand_phases.specs.declared.phase.MarkerFor.{MarkerFor}
 use Rattle.nand_phases.specs.declared.phase.Phase.{Phase}
 use Rattle.nand_phases.specs.declared.setup.Setup.{Setup}
 use Rattle.nand_steps.specs.Go.{go_to, done}
-use Rattle.nand_steps.specs.declared.then.Then.{Then}
+use Rattle.nand_steps.specs.Then.{Then}
 
 -- check_page, check_range, check_cache_range, `block >= block_count`: what lies past the end is OutOfBounds
 abbrev pub within : Bool → Then → Then
-within test then = pick test then (Then.Fail FlashError.OutOfBounds)
+within test then = pick test then (Err FlashError.OutOfBounds)
 
 -- read_cache: check_cache_range, then the transfer
 unfoldable pub read_cache_then : Setup → ℕ → ℕ → Sink → Phase → Then
@@ -32,11 +33,11 @@ read_marker_then setup why = read_cache_then setup setup.geometry.page_size 1 Si
 unfoldable pub piece_then : Setup → ℕ → ℕ → ℕ → Then
 piece_then setup offset n before =
     read_cache_then setup (column_at setup.geometry (place_of offset before)) (chunk_of setup.geometry offset n before) (Sink.Buffer before)
-    (Phase.Reading offset n before)
+    (Phase.Reading (span offset n before))
 
 -- write_page: `if verify != data`
 unfoldable pub compared_then : Setup → ℕ → Then
-compared_then setup same = pick (eqb same 0) (Then.Fail FlashError.VerifyFailed) (done setup)
+compared_then setup same = pick (eqb same 0) (Err FlashError.VerifyFailed) (done setup)
 
 -- `data.len()`
 abbrev pub payload_length : Payload → ℕ

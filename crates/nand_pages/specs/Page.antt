@@ -1,5 +1,5 @@
 -- Pages (nand/driver.rs: page_read, is_bad_block, program_execute, read_page, write_page), cut where they use the bus.
-use Rattle.std.specs.Prelude.{ℕ, Bool, true, false, ltb, eqb}
+use Rattle.std.specs.Prelude.{ℕ, Bool, true, false, ltb, eqb, Err}
 use Rattle.qspi.specs.Choice.{pick}
 use Rattle.qspi.specs.declared.transfer.Sink.{Sink}
 use Rattle.spi_flash.specs.declared.error.FlashError.{FlashError}
@@ -18,7 +18,7 @@ use Rattle.nand_phases.specs.declared.phase.Task.{Task}
 use Rattle.nand_phases.specs.declared.setup.Setup.{Setup}
 use Rattle.nand_pages.specs.Cache.{within, whole_then, read_marker_then, piece_then}
 use Rattle.nand_steps.specs.Go.{done, verdict, send, enable}
-use Rattle.nand_steps.specs.declared.then.Then.{Then}
+use Rattle.nand_steps.specs.Then.{Then}
 
 -- ---- loads
 
@@ -41,7 +41,7 @@ accepted_then setup LoadFor.PageRead = done setup
 accepted_then setup LoadFor.ReadPage = whole_then setup (Sink.Buffer 0) Phase.ReadingCache
 accepted_then setup LoadFor.Verify = whole_then setup (Sink.Compare 0) Phase.Comparing
 accepted_then setup (LoadFor.Marker why) = read_marker_then setup why
-accepted_then setup (LoadFor.Read offset n before) = piece_then setup offset n before
+accepted_then setup (LoadFor.Read s) = piece_then setup s.offset s.len s.done
 
 -- "A load's verdict is that of the status read after its wait has ended"
 unfoldable pub loaded_then : Setup → LoadFor → Then
@@ -56,7 +56,7 @@ uncorrectable EccVerdict.Reserved = false
 
 -- `if self.read_status()?.ecc_verdict() == EccVerdict::Uncorrectable`
 unfoldable pub judged_then : Setup → LoadFor → Status → Then
-judged_then setup why status = pick (uncorrectable (verdict_of status)) (Then.Fail FlashError.UncorrectableEcc) (accepted_then setup why)
+judged_then setup why status = pick (uncorrectable (verdict_of status)) (Err FlashError.UncorrectableEcc) (accepted_then setup why)
 
 -- ---- programs
 
@@ -72,16 +72,16 @@ after_program setup (ProgramFor.MarkBad block) = is_bad_then setup block MarkerF
 
 -- `if self.read_status()?.program_failed()`
 unfoldable pub programmed_then : Setup → ProgramFor → Status → Then
-programmed_then setup why status = pick (program_failed_of status) (Then.Fail FlashError.ProgramFailed) (after_program setup why)
+programmed_then setup why status = pick (program_failed_of status) (Err FlashError.ProgramFailed) (after_program setup why)
 
 -- ---- whole pages: "`read_page` and `write_page` test length before page"
 
 unfoldable pub read_page_then : Setup → ℕ → ℕ → Then
 read_page_then setup page n =
-    pick (eqb n setup.geometry.page_size) (page_read_then setup page LoadFor.ReadPage) (Then.Fail FlashError.InvalidLength)
+    pick (eqb n setup.geometry.page_size) (page_read_then setup page LoadFor.ReadPage) (Err FlashError.InvalidLength)
 
 unfoldable pub write_page_then : Setup → ℕ → ℕ → Then
 write_page_then setup page n =
     pick (eqb n setup.geometry.page_size)
     (within (ltb page (page_count_of setup.geometry)) (enable setup (EnableFor.WritePage page)))
-    (Then.Fail FlashError.InvalidLength)
+    (Err FlashError.InvalidLength)

@@ -9,7 +9,9 @@ use nand_steps::go;
 use nand_steps::then::Then;
 use qspi::transfer::{Payload, Sink};
 use spi_flash::error::FlashError;
+use spi_flash::range::Span;
 
+#[tactic(auto, unfolding(crate::specs::Cache::read_cache_then))]
 pub fn read_cache(setup: Setup, column: usize, len: usize, sink: Sink, phase: Phase) -> Then
     ensures { result ≡ read_cache_then setup column len sink phase }
 {
@@ -20,7 +22,7 @@ pub fn read_cache(setup: Setup, column: usize, len: usize, sink: Sink, phase: Ph
             phase,
         );
     }
-    Then::Fail(FlashError::OutOfBounds)
+    Err(FlashError::OutOfBounds)
 }
 
 // read_page's whole page, into the buffer.
@@ -63,29 +65,27 @@ pub fn read_marker(setup: Setup, why: MarkerFor) -> Then
 }
 
 // The piece of read behind `done` bytes.
-pub fn read_piece(setup: Setup, offset: usize, len: usize, done: usize) -> Then
-    ensures { result ≡ piece_then setup offset len done }
+#[tactic(auto, unfolding(crate::specs::Cache::piece_then))]
+pub fn read_piece(setup: Setup, span: Span<usize>) -> Then
+    ensures { result ≡ piece_then setup span.offset span.len span.done }
 {
     let geometry = setup.geometry;
     read_cache(
         setup,
-        transfer::column_at(geometry, transfer::place(offset, done)),
-        transfer::chunk(geometry, offset, len, done),
-        Sink::Buffer(done),
-        Phase::Reading {
-            offset: offset,
-            len: len,
-            done: done,
-        },
+        transfer::column_at(geometry, transfer::place(span)),
+        transfer::chunk(geometry, span),
+        Sink::Buffer(span.done),
+        Phase::Reading(span),
     )
 }
 
 // write_page's comparison, or 0 where the bytes differ.
+#[tactic(auto, unfolding(crate::specs::Cache::compared_then))]
 pub fn compared(setup: Setup, same: u64) -> Then
     ensures { result ≡ compared_then setup same }
 {
     if same == 0 {
-        return Then::Fail(FlashError::VerifyFailed);
+        return Err(FlashError::VerifyFailed);
     }
     go::done(setup)
 }
@@ -94,13 +94,14 @@ fn payload_len(payload: Payload) -> usize
     ensures { result ≡ payload_length payload }
 {
     match payload {
-        Payload::Data { from: _, len } => len,
+        Payload::Data { len, .. } => len,
         Payload::Filler(n) => n,
         Payload::Marker => 1,
     }
 }
 
 // load_program_data: of the caller's data, of filler, or of the marker.
+#[tactic(auto, unfolding(crate::specs::Cache::load_program_then))]
 pub fn load_program_data(setup: Setup, column: usize, payload: Payload, phase: Phase) -> Then
     ensures { result ≡ load_program_then setup column payload phase }
 {
@@ -111,5 +112,5 @@ pub fn load_program_data(setup: Setup, column: usize, payload: Payload, phase: P
             phase,
         );
     }
-    Then::Fail(FlashError::OutOfBounds)
+    Err(FlashError::OutOfBounds)
 }

@@ -1,6 +1,6 @@
 // Pages: loads, programs, and the two together.
 ghost use Rattle.std.specs.Prelude.{◌≡◌};
-ghost use Rattle.nand_pages.specs.Page.{page_read_then, load_then, is_bad_then, loaded_then, uncorrectable, judged_then, accepted_then, program_then, programmed_then, read_page_then, write_page_then};
+ghost use Rattle.nand_pages.specs.Page.{page_read_then, load_then, is_bad_then, loaded_then, judged_then, accepted_then, program_then, programmed_then, read_page_then, write_page_then};
 
 use crate::cache;
 use nand_phases::phase::{EnableFor, LoadFor, MarkerFor, ProgramFor, Task};
@@ -14,14 +14,14 @@ use spi_nand::status::{EccVerdict, Status};
 // ---- loads
 
 // page_read: check_page, then load_page.
+#[tactic(auto, unfolding(crate::specs::Page::page_read_then))]
 pub fn page_read(setup: Setup, page: usize, why: LoadFor) -> Then
     ensures { result ≡ page_read_then setup page why }
 {
-    let geometry = setup.geometry;
-    if page < geometry.page_count() {
+    if page < setup.geometry.page_count() {
         return load(setup, page, why);
     }
-    Then::Fail(FlashError::OutOfBounds)
+    Err(FlashError::OutOfBounds)
 }
 
 // load_page
@@ -32,6 +32,7 @@ fn load(setup: Setup, page: usize, why: LoadFor) -> Then
 }
 
 // The page is loaded before the cache's range is tested, as in the Rust.
+#[tactic(auto, unfolding(crate::specs::Page::is_bad_then))]
 pub fn is_bad_block(setup: Setup, block: usize, why: MarkerFor) -> Then
     ensures { result ≡ is_bad_then setup block why }
 {
@@ -39,7 +40,7 @@ pub fn is_bad_block(setup: Setup, block: usize, why: MarkerFor) -> Then
     if block < geometry.block_count {
         return load(setup, geometry.first_page(block), LoadFor::Marker(why));
     }
-    Then::Fail(FlashError::OutOfBounds)
+    Err(FlashError::OutOfBounds)
 }
 
 // The end of a load's wait: its verdict is that of the next status.
@@ -54,90 +55,82 @@ pub fn loaded(setup: Setup, why: LoadFor) -> Then
 }
 
 // Only verdict 2 is refused.
-fn uncorrectable(verdict: EccVerdict) -> bool
-    ensures { result ≡ uncorrectable verdict }
-{
-    match verdict {
-        EccVerdict::NoBitFlips => false,
-        EccVerdict::Corrected => false,
-        EccVerdict::Uncorrectable => true,
-        EccVerdict::Reserved => false,
-    }
-}
-
+#[tactic(auto, unfolding(crate::specs::Page::judged_then))]
 pub fn judged(setup: Setup, why: LoadFor, status: Status) -> Then
     ensures { result ≡ judged_then setup why status }
 {
-    if uncorrectable(status.ecc_verdict()) {
-        return Then::Fail(FlashError::UncorrectableEcc);
+    if matches!(status.ecc_verdict(), EccVerdict::Uncorrectable) {
+        return Err(FlashError::UncorrectableEcc);
     }
     accepted(setup, why)
 }
 
 // What is done with a page that is taken.
+#[tactic(auto, unfolding(crate::specs::Page::accepted_then))]
 fn accepted(setup: Setup, why: LoadFor) -> Then
     ensures { result ≡ accepted_then setup why }
 {
     match why {
-        LoadFor::PageRead => return go::done(setup),
-        LoadFor::ReadPage => return cache::read_whole(setup),
-        LoadFor::Verify => return cache::read_back(setup),
-        LoadFor::Marker(why) => return cache::read_marker(setup, why),
-        LoadFor::Read { offset, len, done } => return cache::read_piece(setup, offset, len, done),
+        LoadFor::PageRead => go::done(setup),
+        LoadFor::ReadPage => cache::read_whole(setup),
+        LoadFor::Verify => cache::read_back(setup),
+        LoadFor::Marker(why) => cache::read_marker(setup, why),
+        LoadFor::Read(span) => cache::read_piece(setup, span),
     }
 }
 
 // ---- programs
 
 // program_execute: check_page, then the command.
+#[tactic(auto, unfolding(crate::specs::Page::program_then))]
 pub fn program(setup: Setup, page: usize, why: ProgramFor) -> Then
     ensures { result ≡ program_then setup page why }
 {
-    let geometry = setup.geometry;
-    if page < geometry.page_count() {
+    if page < setup.geometry.page_count() {
         return go::send(
             setup,
             command::program_execute_command(page),
             Task::Program(why),
         );
     }
-    Then::Fail(FlashError::OutOfBounds)
+    Err(FlashError::OutOfBounds)
 }
 
+#[tactic(auto, unfolding(crate::specs::Page::programmed_then))]
 pub fn programmed(setup: Setup, why: ProgramFor, status: Status) -> Then
     ensures { result ≡ programmed_then setup why status }
 {
     if status.program_failed() {
-        return Then::Fail(FlashError::ProgramFailed);
+        return Err(FlashError::ProgramFailed);
     }
     match why {
-        ProgramFor::Call => return go::done(setup),
-        ProgramFor::WritePage(page) => return page_read(setup, page, LoadFor::Verify),
-        ProgramFor::MarkBad(block) => return is_bad_block(setup, block, MarkerFor::Confirm),
+        ProgramFor::Call => go::done(setup),
+        ProgramFor::WritePage(page) => page_read(setup, page, LoadFor::Verify),
+        ProgramFor::MarkBad(block) => is_bad_block(setup, block, MarkerFor::Confirm),
     }
 }
 
 // ---- whole pages: the length before the page
 
+#[tactic(auto, unfolding(crate::specs::Page::read_page_then))]
 pub fn read_page(setup: Setup, page: usize, len: usize) -> Then
     ensures { result ≡ read_page_then setup page len }
 {
-    let geometry = setup.geometry;
-    if len == geometry.page_size {
+    if len == setup.geometry.page_size {
         return page_read(setup, page, LoadFor::ReadPage);
     }
-    Then::Fail(FlashError::InvalidLength)
+    Err(FlashError::InvalidLength)
 }
 
+#[tactic(auto, unfolding(crate::specs::Page::write_page_then))]
 pub fn write_page(setup: Setup, page: usize, len: usize) -> Then
     ensures { result ≡ write_page_then setup page len }
 {
-    let geometry = setup.geometry;
-    if len == geometry.page_size {
-        if page < geometry.page_count() {
+    if len == setup.geometry.page_size {
+        if page < setup.geometry.page_count() {
             return go::enable(setup, EnableFor::WritePage(page));
         }
-        return Then::Fail(FlashError::OutOfBounds);
+        return Err(FlashError::OutOfBounds);
     }
-    Then::Fail(FlashError::InvalidLength)
+    Err(FlashError::InvalidLength)
 }

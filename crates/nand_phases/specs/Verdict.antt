@@ -8,4 +8,4 @@ asks_verdict LoadFor.PageRead = true
 asks_verdict LoadFor.ReadPage = true
 asks_verdict LoadFor.Verify = true
 asks_verdict (LoadFor.Marker why) = false
-asks_verdict (LoadFor.Read offset n before) = true
+asks_verdict (LoadFor.Read s) = true

@@ -2,6 +2,8 @@
 ghost use Rattle.std.specs.Prelude.{◌≡◌};
 ghost use Rattle.nand_phases.specs.Verdict.{asks_verdict};
 
+use spi_flash::range::Span;
+
 // Here and below `bring_up` tells a part of bring_up from a call of its own.
 #[derive(Clone, Copy)]
 pub enum ResetFor {
@@ -39,11 +41,7 @@ pub enum LoadFor {
     // is_bad_block, which asks for no verdict.
     Marker(MarkerFor),
     // read: the page of the next piece.
-    Read {
-        offset: usize,
-        len: usize,
-        done: usize,
-    },
+    Read(Span<usize>),
 }
 
 impl LoadFor {
@@ -51,17 +49,7 @@ impl LoadFor {
     pub fn asks_verdict(self) -> bool
         ensures { result ≡ asks_verdict self }
     {
-        match self {
-            LoadFor::PageRead => true,
-            LoadFor::ReadPage => true,
-            LoadFor::Verify => true,
-            LoadFor::Marker(_) => false,
-            LoadFor::Read {
-                offset: _,
-                len: _,
-                done: _,
-            } => true,
-        }
+        !matches!(self, LoadFor::Marker(_))
     }
 }
 
@@ -163,11 +151,7 @@ pub enum Phase {
     ReadingCache,
     Comparing,
     ReadingMarker(MarkerFor),
-    Reading {
-        offset: usize,
-        len: usize,
-        done: usize,
-    },
+    Reading(Span<usize>),
     // load_program_data: of the caller's data, of write_page, and of mark_bad_block's filler and marker
     LoadingData,
     LoadingPage(usize),

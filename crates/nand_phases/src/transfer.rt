@@ -1,75 +1,63 @@
 // The transfers of the calls, at the configured bus width.
 ghost use Rattle.std.specs.Prelude.{◌≡◌, ◌+◌, ◌-◌};
+ghost use Rattle.spi_flash.specs.Range.{span};
 ghost use Rattle.nand_phases.specs.Transfer.{register_transfer, id_transfer, cache_read_transfer, cache_load_transfer, task_operation, in_cache, in_range, place_of, page_at, column_at, chunk_of, filler_of};
 
 use crate::phase::Task;
 use qspi::transfer::{Body, Payload, Sink, Transfer};
+use spi_flash::range::Span;
+use spi_flash::{number, range};
 use spi_nand::command;
-use spi_nand::config::{NandGeometry, QuadSetting, SpiNandConfig};
+use spi_nand::config::{NandGeometry, SpiNandConfig};
 use spi_nand::opcode::Operation;
 
 // read_register
 pub fn register_transfer(register: u8) -> Transfer
     ensures { result ≡ register_transfer register }
 {
-    Transfer::Framed {
-        command: command::get_feature_command(register),
-        body: Body::Read {
-            len: 1,
-            sink: Sink::Number,
-        },
-    }
+    number::number_transfer(command::get_feature_command(register), 1)
 }
 
 // jedec_id
 pub fn id_transfer() -> Transfer
     ensures { result ≡ id_transfer }
 {
-    Transfer::Framed {
-        command: command::read_id_command(),
-        body: Body::Read {
-            len: 3,
-            sink: Sink::Number,
-        },
-    }
+    number::number_transfer(command::read_id_command(), 3)
 }
 
 // read_cache
+#[tactic(auto, unfolding(crate::specs::Transfer::cache_read_transfer))]
 pub fn cache_read_transfer(config: SpiNandConfig, column: usize, len: usize, sink: Sink) -> Transfer
     ensures { result ≡ cache_read_transfer config column len sink }
 {
-    let quad = config.quad;
-    match quad {
-        QuadSetting::Single => Transfer::Framed {
+    match config.quad {
+        None => Transfer::Framed {
             command: command::read_cache_command(column),
-            body: Body::Read {
-                len: len,
-                sink: sink,
-            },
+            body: Body::Read { len, sink },
         },
-        QuadSetting::Quad(q) => Transfer::Framed {
+        Some(q) => Transfer::Framed {
             command: command::quad_read_cache_command(q, column),
             body: Body::QuadRead {
                 tclqv_ns: q.tclqv_ns,
                 margin: q.dummy_margin,
-                len: len,
-                sink: sink,
+                len,
+                sink,
             },
         },
     }
 }
 
 // load_program_data
+#[tactic(auto, unfolding(crate::specs::Transfer::cache_load_transfer))]
 pub fn cache_load_transfer(config: SpiNandConfig, column: usize, payload: Payload) -> Transfer
     ensures { result ≡ cache_load_transfer config column payload }
 {
-    let quad = config.quad;
-    match quad {
-        QuadSetting::Single => Transfer::Framed {
+    match config.quad {
+        None => Transfer::Framed {
             command: command::load_program_data_command(column),
             body: Body::Write(payload),
         },
-        QuadSetting::Quad(q) => Transfer::Framed {
+        Some(q) => Transfer::Framed {
             command: command::quad_load_program_data_command(q, column),
             body: Body::QuadWrite(payload),
         },
@@ -77,6 +65,7 @@ pub fn cache_load_transfer(config: SpiNandConfig, column: usize, payload: Payloa
 }
 
 // Whose wait follows.
+#[tactic(auto, unfolding(crate::specs::Transfer::task_operation))]
 pub fn task_operation(task: Task) -> Operation
     ensures { result ≡ task_operation task }
 {
@@ -90,36 +79,29 @@ pub fn task_operation(task: Task) -> Operation
 }
 
 // check_cache_range
+#[tactic(auto, unfolding(crate::specs::Transfer::in_cache))]
 pub fn in_cache(geometry: NandGeometry, column: usize, length: usize) -> bool
     ensures { result ≡ in_cache geometry column length }
 {
-    let room = geometry.cache_size();
-    if column <= room {
-        length <= room - column
-    } else {
-        false
-    }
+    range::range_in_bounds(geometry.cache_size(), column, length)
 }
 
 // check_range
+#[tactic(auto, unfolding(crate::specs::Transfer::in_range))]
 pub fn in_range(geometry: NandGeometry, offset: usize, length: usize) -> bool
     ensures { result ≡ in_range geometry offset length }
 {
-    let capacity = geometry.capacity();
-    if offset <= capacity {
-        length <= capacity - offset
-    } else {
-        false
-    }
+    range::range_in_bounds(geometry.capacity(), offset, length)
 }
 
 // ---- the pieces of read
 
 // `offset + done`
-pub fn place(offset: usize, done: usize) -> usize
-    ensures { result ≡ place_of offset done }
+#[tactic(auto, unfolding(crate::specs::Transfer::place_of))]
+pub fn place(span: Span<usize>) -> usize
+    ensures { result ≡ place_of span.offset span.done }
 {
-    std::num::wrapping_add_usize(offset, done)
+    std::num::wrapping_add_usize(span.offset, span.done)
 }
 
 // The page of a byte; no construction takes a page of 0 bytes.
@@ -145,36 +127,29 @@ pub fn column_at(geometry: NandGeometry, address: usize) -> usize
     }
 }
 
-// The bytes of a page from a column on.
-fn page_rest(geometry: NandGeometry, column: usize) -> usize
-    ensures { result ≡ geometry.page_size - column }
+// The bytes from the next piece's column to the end of its page.
+fn page_rest(geometry: NandGeometry, span: Span<usize>) -> usize
+    ensures { result ≡ geometry.page_size - column_at geometry (place_of span.offset span.done) }
 {
-    let page_size = geometry.page_size;
-    if column <= page_size {
-        page_size - column
-    } else {
-        0
-    }
+    let column = column_at(geometry, place(span));
+    geometry.page_size.saturating_sub(column)
 }
 
 // The bytes of the next piece: what is left of its page, or of the buffer.
-pub fn chunk(geometry: NandGeometry, offset: usize, len: usize, done: usize) -> usize
-    ensures { result ≡ chunk_of geometry offset len done }
+#[tactic(auto, unfolding(crate::specs::Transfer::chunk_of))]
+pub fn chunk(geometry: NandGeometry, span: Span<usize>) -> usize
+    ensures { result ≡ chunk_of geometry span.offset span.len span.done }
 {
-    let rest = page_rest(geometry, column_at(geometry, place(offset, done)));
-    if done < len {
-        if len - done <= rest { len - done } else { rest }
-    } else {
-        0
-    }
+    range::piece(page_rest(geometry, span), span.len, span.done)
 }
 
-// What is done after that piece.
-pub fn past_chunk(geometry: NandGeometry, offset: usize, len: usize, done: usize) -> usize
-    ensures { result ≡ done + chunk_of geometry offset len done }
+// Where the call stands after that piece.
+#[tactic(auto, unfolding(crate::specs::Transfer::chunk_of))]
+pub fn past_chunk(geometry: NandGeometry, s: Span<usize>) -> Span<usize>
+    ensures { result ≡ span s.offset s.len (s.done + chunk_of geometry s.offset s.len s.done) }
 {
-    let n = chunk(geometry, offset, len, done);
-    done + n
+    let done = range::past_piece(page_rest(geometry, s), s.len, s.done);
+    Span { done, ..s }
 }
 
 // ---- mark_bad_block's filler
@@ -183,21 +158,17 @@ pub fn past_chunk(geometry: NandGeometry, offset: usize, len: usize, done: usize
 pub const FILLER_CHUNK: usize = 256;
 
 // The bytes of the next load of filler.
+#[tactic(auto, unfolding(crate::specs::Transfer::filler_of))]
 pub fn filler(geometry: NandGeometry, column: usize) -> usize
     ensures { result ≡ filler_of geometry column }
 {
-    let rest = page_rest(geometry, column);
-    if rest <= FILLER_CHUNK {
-        rest
-    } else {
-        FILLER_CHUNK
-    }
+    range::piece(FILLER_CHUNK, geometry.page_size, column)
 }
 
 // The column after that load.
+#[tactic(auto, unfolding(crate::specs::Transfer::filler_of))]
 pub fn past_filler(geometry: NandGeometry, column: usize) -> usize
     ensures { result ≡ column + filler_of geometry column }
 {
-    let n = filler(geometry, column);
-    column + n
+    range::past_piece(FILLER_CHUNK, geometry.page_size, column)
 }

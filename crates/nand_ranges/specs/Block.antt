@@ -1,5 +1,5 @@
 -- Blocks (nand/driver.rs: erase_block, is_bad_block, mark_bad_block), cut where they use the bus.
-use Rattle.std.specs.Prelude.{ℕ, ◌+◌, Bool, not, ltb, eqb}
+use Rattle.std.specs.Prelude.{ℕ, ◌+◌, Bool, not, ltb, eqb, Err}
 use Rattle.qspi.specs.Choice.{pick}
 use Rattle.qspi.specs.declared.transfer.Payload.{Payload}
 use Rattle.spi_flash.specs.declared.error.FlashError.{FlashError}
@@ -17,7 +17,7 @@ use Rattle.nand_phases.specs.declared.setup.Setup.{Setup}
 use Rattle.nand_pages.specs.Cache.{within, load_program_then}
 use Rattle.nand_steps.specs.Go.{end_with, done, enable}
 use Rattle.nand_pages.specs.Page.{program_then}
-use Rattle.nand_steps.specs.declared.then.Then.{Then}
+use Rattle.nand_steps.specs.Then.{Then}
 
 -- ---- erase_block
 
@@ -32,7 +32,7 @@ after_erase setup (EraseFor.MarkBad block) = enable setup (EnableFor.MarkBad blo
 
 -- `if self.read_status()?.erase_failed()`
 unfoldable pub erased_then : Setup → EraseFor → Status → Then
-erased_then setup why status = pick (erase_failed_of status) (Then.Fail FlashError.EraseFailed) (after_erase setup why)
+erased_then setup why status = pick (erase_failed_of status) (Err FlashError.EraseFailed) (after_erase setup why)
 
 -- ---- the marker
 
@@ -49,7 +49,7 @@ checked_then setup block bad = pick bad (done setup) (erase_then setup block (Er
 
 -- mark_bad_block: `if !self.is_bad_block(block)?`
 abbrev pub confirmed_then : Setup → Bool → Then
-confirmed_then setup bad = pick bad (done setup) (Then.Fail FlashError.VerifyFailed)
+confirmed_then setup bad = pick bad (done setup) (Err FlashError.VerifyFailed)
 
 unfoldable pub marker_then : Setup → MarkerFor → ℕ → Then
 marker_then setup MarkerFor.Call marker = end_with setup (Answer.Flag (is_bad marker))

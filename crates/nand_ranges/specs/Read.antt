@@ -1,18 +1,19 @@
 -- read (nand/driver.rs), cut where it uses the bus: page by page, each piece behind the load of its page.
 use Rattle.std.specs.Prelude.{ℕ, ◌+◌, ltb}
 use Rattle.qspi.specs.Choice.{pick}
+use Rattle.spi_flash.specs.Range.{span}
 use Rattle.nand_phases.specs.Transfer.{in_range, place_of, page_at, chunk_of}
 use Rattle.nand_phases.specs.declared.phase.LoadFor.{LoadFor}
 use Rattle.nand_phases.specs.declared.setup.Setup.{Setup}
 use Rattle.nand_pages.specs.Cache.{within}
 use Rattle.nand_steps.specs.Go.{done}
 use Rattle.nand_pages.specs.Page.{page_read_then}
-use Rattle.nand_steps.specs.declared.then.Then.{Then}
+use Rattle.nand_steps.specs.Then.{Then}
 
 -- `while done < buffer.len()`: the page of the byte behind those that are read
 unfoldable pub read_from : Setup → ℕ → ℕ → ℕ → Then
 read_from setup offset n before =
-    pick (ltb before n) (page_read_then setup (page_at setup.geometry (place_of offset before)) (LoadFor.Read offset n before)) (done setup)
+    pick (ltb before n) (page_read_then setup (page_at setup.geometry (place_of offset before)) (LoadFor.Read (span offset n before))) (done setup)
 
 -- check_range, then the loop
 unfoldable pub read_then : Setup → ℕ → ℕ → Then

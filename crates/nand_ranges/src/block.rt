@@ -18,31 +18,26 @@ pub const GOOD_MARKER: u8 = 0xFF;
 
 // ---- erase_block
 
+#[tactic(auto, unfolding(crate::specs::Block::erase_then))]
 pub fn erase_block(setup: Setup, block: usize, why: EraseFor) -> Then
     ensures { result ≡ erase_then setup block why }
 {
-    let geometry = setup.geometry;
-    if block < geometry.block_count {
-        return go::enable(
-            setup,
-            EnableFor::Erase {
-                block: block,
-                why: why,
-            },
-        );
+    if block < setup.geometry.block_count {
+        return go::enable(setup, EnableFor::Erase { block, why });
     }
-    Then::Fail(FlashError::OutOfBounds)
+    Err(FlashError::OutOfBounds)
 }
 
+#[tactic(auto, unfolding(crate::specs::Block::erased_then))]
 pub fn erased(setup: Setup, why: EraseFor, status: Status) -> Then
     ensures { result ≡ erased_then setup why status }
 {
     if status.erase_failed() {
-        return Then::Fail(FlashError::EraseFailed);
+        return Err(FlashError::EraseFailed);
     }
     match why {
-        EraseFor::Call => return go::done(setup),
-        EraseFor::MarkBad(block) => return go::enable(setup, EnableFor::MarkBad(block)),
+        EraseFor::Call => go::done(setup),
+        EraseFor::MarkBad(block) => go::enable(setup, EnableFor::MarkBad(block)),
     }
 }
 
@@ -64,24 +59,26 @@ fn confirmed(setup: Setup, bad: bool) -> Then
     if bad {
         return go::done(setup);
     }
-    Then::Fail(FlashError::VerifyFailed)
+    Err(FlashError::VerifyFailed)
 }
 
 // is_bad_block's answer, and what it is for.
+#[tactic(auto, unfolding(crate::specs::Block::marker_then))]
 pub fn marker(setup: Setup, why: MarkerFor, marker: u8) -> Then
     ensures { result ≡ marker_then setup why marker }
 {
     let bad = marker != GOOD_MARKER;
     match why {
-        MarkerFor::Call => return go::end(setup, Answer::Flag(bad)),
-        MarkerFor::Check(block) => return checked(setup, block, bad),
-        MarkerFor::Confirm => return confirmed(setup, bad),
+        MarkerFor::Call => go::end(setup, Answer::Flag(bad)),
+        MarkerFor::Check(block) => checked(setup, block, bad),
+        MarkerFor::Confirm => confirmed(setup, bad),
     }
 }
 
 // ---- mark_bad_block: filler over the whole page, then the marker behind it
 
 // The loop's head: `while column < page_size`.
+#[tactic(auto, unfolding(crate::specs::Block::fill_from))]
 pub fn fill(setup: Setup, block: usize, column: usize) -> Then
     ensures { result ≡ fill_from setup block column }
 {
@@ -92,10 +89,7 @@ pub fn fill(setup: Setup, block: usize, column: usize) -> Then
             setup,
             column,
             Payload::Filler(transfer::filler(geometry, column)),
-            Phase::LoadingFiller {
-                block: block,
-                column: column,
-            },
+            Phase::LoadingFiller { block, column },
         );
     }
     cache::load_program_data(

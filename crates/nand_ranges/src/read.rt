@@ -9,44 +9,44 @@ use nand_phases::transfer;
 use nand_steps::go;
 use nand_steps::then::Then;
 use spi_flash::error::FlashError;
+use spi_flash::range::Span;
 
 // check_range, then the pages.
+#[tactic(auto, unfolding(crate::specs::Read::read_then))]
 pub fn read(setup: Setup, offset: usize, len: usize) -> Then
     ensures { result ≡ read_then setup offset len }
 {
     if transfer::in_range(setup.geometry, offset, len) {
-        return read_from(setup, offset, len, 0);
+        return read_from(
+            setup,
+            Span {
+                offset,
+                len,
+                done: 0,
+            },
+        );
     }
-    Then::Fail(FlashError::OutOfBounds)
+    Err(FlashError::OutOfBounds)
 }
 
 // The loop's head: `while done < buffer.len()`.
-fn read_from(setup: Setup, offset: usize, len: usize, done: usize) -> Then
-    ensures { result ≡ read_from setup offset len done }
+#[tactic(auto, unfolding(crate::specs::Read::read_from))]
+fn read_from(setup: Setup, span: Span<usize>) -> Then
+    ensures { result ≡ read_from setup span.offset span.len span.done }
 {
-    let geometry = setup.geometry;
-    if done < len {
+    if span.done < span.len {
         return page::page_read(
             setup,
-            transfer::page_at(geometry, transfer::place(offset, done)),
-            LoadFor::Read {
-                offset: offset,
-                len: len,
-                done: done,
-            },
+            transfer::page_at(setup.geometry, transfer::place(span)),
+            LoadFor::Read(span),
         );
     }
     go::done(setup)
 }
 
 // A piece is in the buffer.
-pub fn piece_read(setup: Setup, offset: usize, len: usize, done: usize) -> Then
-    ensures { result ≡ piece_read_then setup offset len done }
+pub fn piece_read(setup: Setup, span: Span<usize>) -> Then
+    ensures { result ≡ piece_read_then setup span.offset span.len span.done }
 {
-    read_from(
-        setup,
-        offset,
-        len,
-        transfer::past_chunk(setup.geometry, offset, len, done),
-    )
+    read_from(setup, transfer::past_chunk(setup.geometry, span))
 }

@@ -6,13 +6,12 @@ use lib.Dec.{ltb, leb}
 use borrow.Author.Tests.{leb-true, le-leb, le-ltb}
 use Rattle.qspi.specs.declared.transfer.Transfer.{Transfer}
 use Rattle.qspi.proofs.Cases.{by_cases}
-use Rattle.std.specs.Prelude.{if◌then◌else◌}
+use Rattle.std.specs.Prelude.{if◌then◌else◌, Option, Some, None}
 use Rattle.spi_flash.specs.Prog.{Prog, ret, fail, ask, ◌>>=◌, ◌>>◌, refuse}
 use Rattle.spi_flash.specs.declared.error.FlashError.{FlashError}
 use Rattle.flash_runs.proofs.General.{place}
 use Rattle.spi_nand.specs.Opcode.{REG-CONFIGURATION, REG-BLOCK-PROTECTION}
 use Rattle.spi_nand.specs.Status.{configuration_of, configuration_byte, same_configuration, protection_of, is_unlocked}
-use Rattle.spi_nand.specs.declared.config.GeometrySetting.{GeometrySetting}
 use Rattle.spi_nand.specs.declared.config.NandGeometry.{NandGeometry}
 use Rattle.spi_nand.specs.declared.config.NandInit.{NandInit}
 use Rattle.spi_nand.specs.declared.config.NandJedecId.{NandJedecId}
@@ -75,18 +74,18 @@ resolves : (config : SpiNandConfig) (id : NandJedecId) → geometry_for (fresh_s
 unfolding geometry_for
 resolves config id = at config.geometry
   where
-    at : (setting : GeometrySetting) → geometry_at setting (given_at setting) id ≡ resolved setting id
-    at GeometrySetting.Detect = refl
-    at (GeometrySetting.Given own) = refl
+    at : (setting : Option NandGeometry) → geometry_at setting (given_at setting) id ≡ resolved setting id
+    at None = refl
+    at (Some own) = refl
 
 -- a page that is taken, whatever the id
-small : (setting : GeometrySetting) (id : NandJedecId) → page_taken setting ≡ true → leb (resolved setting id).page_size MAX-VERIFY-PAGE-SIZE ≡ true
-small GeometrySetting.Detect id h = le-leb _ MAX-VERIFY-PAGE-SIZE (geometries-hold.known id).page
-small (GeometrySetting.Given own) id h = h
+small : (setting : Option NandGeometry) (id : NandJedecId) → page_taken setting ≡ true → leb (resolved setting id).page_size MAX-VERIFY-PAGE-SIZE ≡ true
+small None id h = le-leb _ MAX-VERIFY-PAGE-SIZE (geometries-hold.known id).page
+small (Some own) id h = h
 
-large : (setting : GeometrySetting) (id : NandJedecId) → page_taken setting ≡ false → leb (resolved setting id).page_size MAX-VERIFY-PAGE-SIZE ≡ false
-large GeometrySetting.Detect id h = absurd (true≢false h)
-large (GeometrySetting.Given own) id h = h
+large : (setting : Option NandGeometry) (id : NandJedecId) → page_taken setting ≡ false → leb (resolved setting id).page_size MAX-VERIFY-PAGE-SIZE ≡ false
+large None id h = absurd (true≢false h)
+large (Some own) id h = h
 
 -- what follows the id, by the page
 module _ (s : Setup) (id : NandJedecId) (g : NandGeometry) (is : geometry_for s id ≡ g) where

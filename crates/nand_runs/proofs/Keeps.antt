@@ -1,13 +1,16 @@
 -- What a call keeps from transfer to transfer: one walk through its phases, for whatever is said of what follows.
+use Rattle.std.specs.Prelude.{Ok, Err, Option, Some, None}
+use Rattle.spi_flash.specs.Range.{span}
 use Prim.Native.Nat.{ℕ, ◌+◌, ◌%◌}
 use mathlib.Core.Bool.{Bool, true, false}
 use mathlib.Core.Path.{◌≡◌, refl}
 use lib.Dec.{ltb, leb, eqb}
+use Rattle.std.specs.Prelude.{Err}
 use Rattle.qspi.specs.Choice.{pick}
 use Rattle.qspi.specs.declared.transfer.Payload.{Payload}
 use Rattle.qspi.specs.declared.transfer.Sink.{Sink}
 use Rattle.qspi.specs.declared.transfer.Transfer.{Transfer}
-use Rattle.frames.specs.declared.frame.Outcome.{Outcome}
+use Rattle.frames.specs.Frame.{Outcome}
 use Rattle.spi_flash.specs.Machine.{Onward}
 use Rattle.spi_flash.specs.Wait.{first_wait, next_wait}
 use Rattle.spi_flash.specs.declared.error.FlashError.{FlashError}
@@ -15,7 +18,6 @@ use Rattle.spi_flash.specs.declared.wait.Wait.{Wait}
 use Rattle.spi_nand.specs.Config.{in_bounds, page_count_of, first_page_of}
 use Rattle.spi_nand.specs.Opcode.{timings_of}
 use Rattle.spi_nand.specs.Status.{status_of, busy_of, write_enabled_of, erase_failed_of, program_failed_of, verdict_of, configuration_of, protection_of, quad_enabled_of, same_configuration, is_unlocked}
-use Rattle.spi_nand.specs.declared.config.GeometrySetting.{GeometrySetting}
 use Rattle.spi_nand.specs.declared.config.NandGeometry.{NandGeometry}
 use Rattle.spi_nand.specs.declared.config.NandJedecId.{NandJedecId}
 use Rattle.spi_nand.specs.declared.status.Configuration.{Configuration}
@@ -44,7 +46,7 @@ use Rattle.nand_phases.specs.Verdict.{asks_verdict}
 use Rattle.nand_pages.specs.Page.{uncorrectable, page_read_then, is_bad_then, accepted_then, loaded_then, judged_then, program_then, after_program, programmed_then, read_page_then, write_page_then}
 use Rattle.nand_ranges.specs.Read.{read_from, read_then}
 use Rattle.nand_ranges.specs.Block.{is_bad, erase_then, after_erase, erased_then, marker_then, fill_from}
-use Rattle.nand_steps.specs.declared.then.Then.{Then}
+use Rattle.nand_steps.specs.Then.{Then}
 use Rattle.nand_steps.specs.Go.{go_to, end_with}
 use Rattle.nand_next.specs.Wait.{reset_then, resume_task, judge_task, wait_then, waiting_then}
 use Rattle.nand_next.specs.Next.{enabled_then, latched_then, enabling_then, identify_then, answered_then, after_phase, next_of}
@@ -103,7 +105,7 @@ module _ (Ok : Bool → Type 0) where
   OkPhase Phase.ReadingCache = Unit {0}
   OkPhase Phase.Comparing = Unit {0}
   OkPhase (Phase.ReadingMarker why) = Unit {0}
-  OkPhase (Phase.Reading offset len done) = Unit {0}
+  OkPhase (Phase.Reading p) = Unit {0}
   OkPhase Phase.LoadingData = Unit {0}
   OkPhase (Phase.LoadingPage page) = Unit {0}
   OkPhase (Phase.LoadingFiller block column) = Unit {0}
@@ -159,7 +161,7 @@ module _ where
   all-ok Phase.ReadingCache = tt
   all-ok Phase.Comparing = tt
   all-ok (Phase.ReadingMarker why) = tt
-  all-ok (Phase.Reading offset len done) = tt
+  all-ok (Phase.Reading p) = tt
   all-ok Phase.LoadingData = tt
   all-ok (Phase.LoadingPage page) = tt
   all-ok (Phase.LoadingFiller block column) = tt
@@ -176,7 +178,7 @@ keeps-pick R false x y h k = k
 pub record Passes (Ok : Bool → Type 0) (In : Setup → Type 0) (R : Then → Type 0) : Type 0 where
   pub go : (s : Setup) (t : Transfer) (phase : Phase) → In s → OkPhase Ok phase → R (go_to s t phase)
   pub end : (s : Setup) (answer : Answer) → In s → R (end_with s answer)
-  pub fail : (e : FlashError) → R (Then.Fail e)
+  pub fail : (e : FlashError) → R (Err e)
   pub identified : (s : Setup) (id : NandJedecId) → Ok true → In s → In (identified_as s (geometry_for s id) id)
   pub before : (s : Setup) (c : Configuration) → Ok true → In s → In (with_before s c)
   pub protection : (s : Setup) (p : Protection) → Ok true → In s → In (with_protection s p)
@@ -193,7 +195,7 @@ module _ {Ok : Bool → Type 0} {In : Setup → Type 0} {R : Then → Type 0} (p
     abbrev ends : {answer : Answer} → R (end_with s answer)
     ends {answer} = passes.end s answer i
 
-    abbrev fails : {e : FlashError} → R (Then.Fail e)
+    abbrev fails : {e : FlashError} → R (Err e)
     fails {e} = passes.fail e
 
     -- ---- the cache, loads and programs
@@ -224,8 +226,8 @@ module _ {Ok : Bool → Type 0} {In : Setup → Type 0} {R : Then → Type 0} (p
     keeps-accepted LoadFor.ReadPage = keeps-read-cache 0 s.geometry.page_size (Sink.Buffer 0) Phase.ReadingCache tt
     keeps-accepted LoadFor.Verify = keeps-read-cache 0 s.geometry.page_size (Sink.Compare 0) Phase.Comparing tt
     keeps-accepted (LoadFor.Marker why) = keeps-read-cache s.geometry.page_size 1 Sink.Number (Phase.ReadingMarker why) tt
-    keeps-accepted (LoadFor.Read offset n done) =
-        keeps-read-cache (column_at s.geometry (place_of offset done)) (chunk_of s.geometry offset n done) (Sink.Buffer done) (Phase.Reading offset n done) tt
+    keeps-accepted (LoadFor.Read p) =
+        keeps-read-cache (column_at s.geometry (place_of p.offset p.done)) (chunk_of s.geometry p.offset p.len p.done) (Sink.Buffer p.done) (Phase.Reading p) tt
 
     keeps-loaded : (why : LoadFor) → R (loaded_then s why)
     unfolding loaded_then
@@ -250,7 +252,7 @@ module _ {Ok : Bool → Type 0} {In : Setup → Type 0} {R : Then → Type 0} (p
 
     keeps-read : (offset n done : ℕ) → R (read_from s offset n done)
     unfolding read_from
-    keeps-read offset n done = chosen (ltb done n) (keeps-page-read (page_at s.geometry (place_of offset done)) (LoadFor.Read offset n done)) ends
+    keeps-read offset n done = chosen (ltb done n) (keeps-page-read (page_at s.geometry (place_of offset done)) (LoadFor.Read (span offset n done))) ends
 
     -- ---- blocks
 
@@ -405,7 +407,7 @@ module _ {Ok : Bool → Type 0} {In : Setup → Type 0} {R : Then → Type 0} (p
     keeps-phase Phase.ReadingCache v h = ends
     keeps-phase Phase.Comparing v h = keeps-compared v
     keeps-phase (Phase.ReadingMarker why) v h = keeps-marker why (v % 256)
-    keeps-phase (Phase.Reading offset n done) v h = keeps-read offset n (done + chunk_of s.geometry offset n done)
+    keeps-phase (Phase.Reading p) v h = keeps-read p.offset p.len (p.done + chunk_of s.geometry p.offset p.len p.done)
     keeps-phase Phase.LoadingData v h = ends
     keeps-phase (Phase.LoadingPage page) v h = keeps-program page (ProgramFor.WritePage page)
     keeps-phase (Phase.LoadingFiller block column) v h = keeps-fill block (column + filler_of s.geometry column)
@@ -414,9 +416,9 @@ module _ {Ok : Bool → Type 0} {In : Setup → Type 0} {R : Then → Type 0} (p
 -- ---- a geometry within the bounds stays so
 
 -- the geometry of a known part is
-resolved-inside : (setting : GeometrySetting) (g : NandGeometry) (id : NandJedecId) → in_bounds g ≡ true → in_bounds (geometry_at setting g id) ≡ true
-resolved-inside GeometrySetting.Detect g id h = (geometries-hold.known id).bounds
-resolved-inside (GeometrySetting.Given own) g id h = h
+resolved-inside : (setting : Option NandGeometry) (g : NandGeometry) (id : NandJedecId) → in_bounds g ≡ true → in_bounds (geometry_at setting g id) ≡ true
+resolved-inside None g id h = (geometries-hold.known id).bounds
+resolved-inside (Some own) g id h = h
 
 pub inside : Passes (λ within. Unit {0}) (λ s. in_bounds s.geometry ≡ true) (λ x. Onward Valid (decide x))
 unfolding geometry_for
@@ -456,5 +458,5 @@ stays s = record {
 
 pub stays-next : (s : Setup) (phase : Phase) (o : Outcome) → Built phase → Stays Built s (then_as (next_of s phase o))
 unfolding next_of
-stays-next s phase (Outcome.Value v) h = keeps-phase (stays s) s refl phase v h
-stays-next s phase (Outcome.Failed code) h = tt
+stays-next s phase (Ok v) h = keeps-phase (stays s) s refl phase v h
+stays-next s phase (Err error) h = tt

@@ -1,4 +1,6 @@
 -- What each call does with the caller's buffer: read, read_page and read_cache fill it place after place, no other call reads into it.
+use Rattle.std.specs.Prelude.{Option, Some, None}
+use Rattle.spi_nand.specs.declared.config.NandQuadConfig.{NandQuadConfig}
 use Prim.Native.Nat.{ℕ, zero, suc, ◌+◌, ◌-◌, ◌≤◌}
 use native.Mathlib.Omega.{arith}
 use mathlib.Core.Bool.{true, not}
@@ -21,7 +23,6 @@ use Rattle.spi_nand.specs.Command.{get_feature_command}
 use Rattle.spi_nand.specs.Config.{in_bounds, page_count_of, single_config}
 use Rattle.spi_nand.specs.Opcode.{REG-STATUS, timings_of}
 use Rattle.spi_nand.specs.Status.{busy_value, verdict_of}
-use Rattle.spi_nand.specs.declared.config.QuadSetting.{QuadSetting}
 use Rattle.spi_nand.specs.declared.opcode.Operation.{Operation}
 use Rattle.spi_nand.proofs.Geometries.{geometries-hold}
 use Rattle.nand_phases.specs.Transfer.{cache_read_at, cache_read_transfer, in_cache, in_range, place_of, page_at, column_at, chunk_of}
@@ -65,11 +66,11 @@ module _ (s : Setup) where
   -- ---- the cache into the buffer
 
   module _ (len n : ℕ) where
-    fills-at : (q : QuadSetting) (column m : ℕ) (f : ℕ → Prog Left) → n + m ≤ len → ((v : ℕ) → Fills reads_cache len (n + m) (f v)) →
+    fills-at : (q : Option NandQuadConfig) (column m : ℕ) (f : ℕ → Prog Left) → n + m ≤ len → ((v : ℕ) → Fills reads_cache len (n + m) (f v)) →
         Fills reads_cache len n (transfer (cache_read_at q column m (Sink.Buffer n)) >>= f)
     unfolding ◌>>=◌
-    fills-at QuadSetting.Single column m f room later = (refl, refl, room, later)
-    fills-at (QuadSetting.Quad q) column m f room later = (refl, refl, room, later)
+    fills-at None column m f room later = (refl, refl, room, later)
+    fills-at (Some q) column m f room later = (refl, refl, room, later)
 
     fills-read-cache : (column m : ℕ) (f : ℕ → Prog Left) → n + m ≤ len → ((v : ℕ) → Fills reads_cache len (n + m) (f v)) →
         Fills reads_cache len n (read-cache s column m (Sink.Buffer n) >>= f)

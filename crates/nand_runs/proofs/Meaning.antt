@@ -98,9 +98,9 @@ accepted s LoadFor.PageRead = DONE s
 accepted s LoadFor.ReadPage = read-cache s 0 s.geometry.page_size (Sink.Buffer 0) >> DONE s
 accepted s LoadFor.Verify = read-cache s 0 s.geometry.page_size (Sink.Compare 0) >>= compared s
 accepted s (LoadFor.Marker why) = read-cache s s.geometry.page_size 1 Sink.Number >>= (λ marker. marker-read s why (bad marker))
-accepted s (LoadFor.Read offset len done) =
-    read-cache s (column_at s.geometry (place_of offset done)) (chunk_of s.geometry offset len done) (Sink.Buffer done)
-    >> read-on s offset len (done + chunk_of s.geometry offset len done)
+accepted s (LoadFor.Read p) =
+    read-cache s (column_at s.geometry (place_of p.offset p.done)) (chunk_of s.geometry p.offset p.len p.done) (Sink.Buffer p.done)
+    >> read-on s p.offset p.len (p.done + chunk_of s.geometry p.offset p.len p.done)
 
 unfoldable pub judged : Setup → LoadFor → Status → Prog Left
 judged s why status = refuse (uncorrectable (verdict_of status)) FlashError.UncorrectableEcc >> accepted s why
@@ -110,7 +110,7 @@ loaded s LoadFor.PageRead = read-status >>= judged s LoadFor.PageRead
 loaded s LoadFor.ReadPage = read-status >>= judged s LoadFor.ReadPage
 loaded s LoadFor.Verify = read-status >>= judged s LoadFor.Verify
 loaded s (LoadFor.Marker why) = accepted s (LoadFor.Marker why)
-loaded s (LoadFor.Read offset len done) = read-status >>= judged s (LoadFor.Read offset len done)
+loaded s (LoadFor.Read p) = read-status >>= judged s (LoadFor.Read p)
 
 unfoldable pub after-program : Setup → ProgramFor → Prog Left
 after-program s ProgramFor.Call = DONE s
@@ -240,7 +240,7 @@ meaning_at s (Phase.Waiting task WaitStep.Verdict waited) v = task-judged s task
 meaning_at s Phase.ReadingCache v = DONE s
 meaning_at s Phase.Comparing v = compared s v
 meaning_at s (Phase.ReadingMarker why) v = marker-read s why (bad v)
-meaning_at s (Phase.Reading offset len done) v = read-on s offset len (done + chunk_of s.geometry offset len done)
+meaning_at s (Phase.Reading p) v = read-on s p.offset p.len (p.done + chunk_of s.geometry p.offset p.len p.done)
 meaning_at s Phase.LoadingData v = DONE s
 meaning_at s (Phase.LoadingPage page) v = program-page s page
 meaning_at s (Phase.LoadingFiller block column) v = fill_on s block (column + filler_of s.geometry column)

@@ -1,4 +1,7 @@
 -- How each call opens, as the general theory asks for it.
+use Rattle.spi_flash.specs.Range.{span}
+use Rattle.std.specs.Prelude.{Option, Some, None}
+use Rattle.spi_nand.specs.declared.config.NandQuadConfig.{NandQuadConfig}
 use Prim.Native.Nat.{ℕ}
 use mathlib.Core.Bool.{Bool, true, false}
 use mathlib.Core.Path.{◌≡◌, refl}
@@ -13,7 +16,6 @@ use Rattle.flash_runs.proofs.Supplies.{Stays, Selects, SelectsFirst, Use, OpensA
 use Rattle.spi_nand.specs.Command.{reset_command}
 use Rattle.spi_nand.specs.Config.{in_bounds, page_count_of, single_config}
 use Rattle.spi_nand.specs.Opcode.{REG-STATUS, REG-CONFIGURATION, REG-BLOCK-PROTECTION}
-use Rattle.spi_nand.specs.declared.config.QuadSetting.{QuadSetting}
 use Rattle.nand_phases.specs.Transfer.{in_cache, in_range, place_of, page_at, cache_read_at, cache_read_transfer, cache_load_at, cache_load_transfer}
 use Rattle.nand_phases.specs.declared.call.Call.{Call}
 use Rattle.nand_phases.specs.declared.phase.Asked.{Asked}
@@ -32,11 +34,11 @@ use Rattle.nand_pages.specs.Cache.{read_cache_then, load_program_then, payload_l
 use Rattle.nand_pages.specs.Page.{page_read_then, is_bad_then, program_then, read_page_then, write_page_then}
 use Rattle.nand_ranges.specs.Read.{read_from, read_then}
 use Rattle.nand_ranges.specs.Block.{erase_then}
-use Rattle.nand_steps.specs.declared.then.Then.{Then}
+use Rattle.nand_steps.specs.Then.{Then}
 use Rattle.nand_opening.specs.Opening.{opening_of}
 use Rattle.nand_rust.specs.Program.{program_of, rust_program}
 use Rattle.nand_runs.specs.Run.{sort_of, nand_driver}
-use Rattle.nand_driver.specs.Call.{opening_as}
+use Rattle.machine.specs.Shape.{opening_as}
 use Rattle.nand_driver.specs.Settle.{then_as}
 use Rattle.nand_runs.proofs.Places.{parts, decide, Valid}
 use Rattle.nand_runs.proofs.Meaning.{meaning}
@@ -62,17 +64,17 @@ module _ (s : Setup) where
   unfolding read_cache_then cache_read_transfer
   selects-read-cache column n = selects-pick (in_cache s.geometry column n) _ _ (at s.config.quad) tt
     where
-      at : (q : QuadSetting) → Selects (cache_read_at q column n (Sink.Buffer 0))
-      at QuadSetting.Single = λ select. refl
-      at (QuadSetting.Quad q) = λ select. refl
+      at : (q : Option NandQuadConfig) → Selects (cache_read_at q column n (Sink.Buffer 0))
+      at None = λ select. refl
+      at (Some q) = λ select. refl
 
   selects-load-data : (column : ℕ) (payload : Payload) → SelectsAt (load_program_then s column payload Phase.LoadingData)
   unfolding load_program_then cache_load_transfer
   selects-load-data column payload = selects-pick (in_cache s.geometry column (payload_length payload)) _ _ (at s.config.quad) tt
     where
-      at : (q : QuadSetting) → Selects (cache_load_at q column payload)
-      at QuadSetting.Single = λ select. refl
-      at (QuadSetting.Quad q) = λ select. refl
+      at : (q : Option NandQuadConfig) → Selects (cache_load_at q column payload)
+      at None = λ select. refl
+      at (Some q) = λ select. refl
 
   selects-program : (page : ℕ) → SelectsAt (program_then s page ProgramFor.Call)
   unfolding program_then
@@ -99,7 +101,7 @@ module _ (s : Setup) where
   unfolding read_then read_from
   selects-read offset n =
       selects-pick (in_range s.geometry offset n) _ _
-      (selects-pick (ltb 0 n) _ _ (selects-page-read (page_at s.geometry (place_of offset 0)) (LoadFor.Read offset n 0)) tt) tt
+      (selects-pick (ltb 0 n) _ _ (selects-page-read (page_at s.geometry (place_of offset 0)) (LoadFor.Read (span offset n 0))) tt) tt
 
 -- ---- every call
 

@@ -9,10 +9,10 @@ use Rattle.nand_answers.specs.declared.answer.Answer.{Answer}
 use Rattle.nand_phases.specs.declared.call.Call.{Call}
 use Rattle.nand_phases.specs.declared.phase.Phase.{Phase}
 use Rattle.nand_phases.specs.declared.setup.Setup.{Setup}
-use Rattle.nand_steps.specs.declared.then.Then.{Then}
+use Rattle.nand_steps.specs.Then.{Then}
 use Rattle.nand_driver.specs.Call.{nand_calls}
 use Rattle.nand_driver.specs.Settle.{then_as}
-use Rattle.nand_reply.specs.Step.{nand_next}
+use Rattle.nand_driver.specs.Step.{nand_next}
 use Rattle.nand_rust.specs.Program.{Left}
 
 abbrev pub parts : Parts Setup Phase Answer Call

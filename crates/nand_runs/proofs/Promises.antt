@@ -29,7 +29,7 @@ use Rattle.spi_nand.specs.declared.config.SpiNandConfig.{SpiNandConfig}
 use Rattle.nand_answers.specs.declared.answer.Answer.{Answer}
 use Rattle.nand_phases.specs.declared.call.Call.{Call}
 use Rattle.nand_phases.specs.declared.setup.Setup.{Setup}
-use Rattle.nand_driver.specs.declared.state.SpiNandFlash.{SpiNandFlash}
+use Rattle.nand_driver.specs.Settle.{SpiNandFlash}
 use Rattle.nand_rust.specs.Bound.{delay_bound}
 use Rattle.nand_rust.specs.Program.{Left, rust_program, large_page, refused-page}
 use Rattle.nand_rust.specs.ReadSeen.{touched, ReadSeen}

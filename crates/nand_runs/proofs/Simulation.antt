@@ -1,4 +1,6 @@
 -- The driver's phases do what the Rust's calls do.
+use Rattle.spi_flash.specs.Range.{span}
+use Rattle.spi_nand.specs.declared.config.NandQuadConfig.{NandQuadConfig}
 use Prim.Native.Nat.{ℕ, ◌+◌, ◌%◌, ◌≤◌}
 use mathlib.Core.Bool.{Bool, true, false, not}
 use mathlib.Core.Path.{◌≡◌, refl, ap, sym, ◌∙◌, fun_ext}
@@ -13,7 +15,7 @@ use Rattle.qspi.specs.declared.transfer.Sink.{Sink}
 use Rattle.qspi.specs.declared.transfer.Body.{Body}
 use Rattle.qspi.specs.declared.transfer.Transfer.{Transfer}
 use Rattle.qspi.proofs.Cases.{by_cases}
-use Rattle.std.specs.Prelude.{if◌then◌else◌}
+use Rattle.std.specs.Prelude.{if◌then◌else◌, Err, Option, Some, None}
 use Rattle.spi_flash.specs.Prog.{Prog, ret, fail, ask, ◌>>=◌, ◌>>◌, refuse, transfer}
 use Rattle.spi_flash.specs.Wait.{first_wait, next_wait}
 use Rattle.spi_flash.specs.WaitLaw.{waiting, delayed_wait}
@@ -52,10 +54,9 @@ use Rattle.nand_pages.specs.Cache.{within, read_cache_then, piece_then, compared
 use Rattle.nand_pages.specs.Page.{load_then, page_read_then, is_bad_then, accepted_then, loaded_then, judged_then, program_then, after_program, programmed_then}
 use Rattle.nand_ranges.specs.Read.{read_from}
 use Rattle.nand_ranges.specs.Block.{erase_then, after_erase, erased_then, marker_then, fill_from}
-use Rattle.nand_steps.specs.declared.then.Then.{Then}
+use Rattle.nand_steps.specs.Then.{Then}
 use Rattle.nand_next.specs.Wait.{reset_then, resume_task, judge_task, wait_then, waiting_then}
 use Rattle.nand_next.specs.Next.{enabled_then, latched_then, enabling_then, identify_then, answered_then, after_phase, next_of}
-use Rattle.spi_nand.specs.declared.config.QuadSetting.{QuadSetting}
 use Rattle.spi_nand.specs.declared.config.NandJedecId.{NandJedecId}
 use Rattle.nand_rust.specs.Rust.{Nothing, MAX-VERIFY-PAGE-SIZE, quad-wanted, wanted-of, uncorrectable, read-status, read-configuration, read-protection, wait-ready, write-enable, write-register, reset, jedec-id, load-page, page-read, read-cache, load-program-data, program-execute, read-page, erase-block, reading, is-bad-block, filling}
 use Rattle.nand_rust.specs.Program.{Left}
@@ -84,7 +85,7 @@ reads-cache s column n sink phase f e = rw e (by_cases (in_cache s.geometry colu
 
 pub loads-cache : (s : Setup) (column n : ℕ) (payload : Payload) (phase : Phase) (p : Prog Left) → ((v : ℕ) → meaning (place s phase) v ≡ p) →
     load-program-data s column n payload >> p ≡
-    tree meaning (decide (pick (in_cache s.geometry column n) (go_to s (cache_load_transfer s.config column payload) phase) (Then.Fail FlashError.OutOfBounds)))
+    tree meaning (decide (pick (in_cache s.geometry column n) (go_to s (cache_load_transfer s.config column payload) phase) (Err FlashError.OutOfBounds)))
 unfolding load-program-data refuse ◌>>=◌ ◌>>◌
 loads-cache s column n payload phase p e =
     by_cases (in_cache s.geometry column n)
@@ -227,9 +228,9 @@ same-wanted : (s : Setup) (before : Configuration) → wanted_for s.config befor
 unfolding wanted_for
 same-wanted s before = at s.config.quad (with_bits before (bit_or ECC-ENABLE BUFFER-READ) (configuration_byte OPERATIONAL))
   where
-    at : (q : QuadSetting) (c : Configuration) → with_quad q c ≡ quad-wanted q c
-    at QuadSetting.Single c = refl
-    at (QuadSetting.Quad q) c = refl
+    at : (q : Option NandQuadConfig) (c : Configuration) → with_quad q c ≡ quad-wanted q c
+    at None c = refl
+    at (Some q) c = refl
 
 configures-on : (s : Setup) (within : Bool) (before : Configuration) → configure-on s within before ≡ tree meaning (decide (configure_then s before within))
 unfolding configure-on configure_then written ◌>>=◌ ◌>>◌
@@ -315,7 +316,7 @@ reading-marker : (s : Setup) (why : MarkerFor) → (λ marker. marker-read s why
 unfolding meaning_at
 reading-marker s why = refl
 
-reading-piece : (s : Setup) (offset len done : ℕ) → (λ v. read-on s offset len (done + chunk_of s.geometry offset len done)) ≡ meaning (place s (Phase.Reading offset len done))
+reading-piece : (s : Setup) (offset len done : ℕ) → (λ v. read-on s offset len (done + chunk_of s.geometry offset len done)) ≡ meaning (place s (Phase.Reading (span offset len done)))
 unfolding meaning_at
 reading-piece s offset len done = refl
 
@@ -334,7 +335,7 @@ module _ (s : Setup) (valid : in_bounds s.geometry ≡ true) where
       (λ h. rw h
       (then-assoc (page-read s page) (piece >> reading s offset len (done + n)) (DONE s)
       ∙ ap (λ p. page-read s page >> p) (then-assoc piece (reading s offset len (done + n)) (DONE s))
-      ∙ page-reads s page (LoadFor.Read offset len done) refl))
+      ∙ page-reads s page (LoadFor.Read (span offset len done)) refl))
       (λ h. rw h (finishes (DONE s))))
 
   -- ---- what each reason comes to
@@ -345,9 +346,9 @@ module _ (s : Setup) (valid : in_bounds s.geometry ≡ true) where
   accepts LoadFor.ReadPage = reads-cache s 0 s.geometry.page_size (Sink.Buffer 0) Phase.ReadingCache (λ v. DONE s) (reading-cache s)
   accepts LoadFor.Verify = reads-cache s 0 s.geometry.page_size (Sink.Compare 0) Phase.Comparing (compared s) (comparing s)
   accepts (LoadFor.Marker why) = reads-cache s s.geometry.page_size 1 Sink.Number (Phase.ReadingMarker why) (λ marker. marker-read s why (bad marker)) (reading-marker s why)
-  accepts (LoadFor.Read offset len done) =
-      reads-cache s (column_at s.geometry (place_of offset done)) (chunk_of s.geometry offset len done) (Sink.Buffer done) (Phase.Reading offset len done)
-      (λ v. read-on s offset len (done + chunk_of s.geometry offset len done)) (reading-piece s offset len done)
+  accepts (LoadFor.Read p) =
+      reads-cache s (column_at s.geometry (place_of p.offset p.done)) (chunk_of s.geometry p.offset p.len p.done) (Sink.Buffer p.done) (Phase.Reading p)
+      (λ v. read-on s p.offset p.len (p.done + chunk_of s.geometry p.offset p.len p.done)) (reading-piece s p.offset p.len p.done)
 
   loads-on : (why : LoadFor) → loaded s why ≡ tree meaning (decide (loaded_then s why))
   unfolding loaded loaded_then meaning_at task-judged read-status ◌>>=◌ ◌>>◌
@@ -355,7 +356,7 @@ module _ (s : Setup) (valid : in_bounds s.geometry ≡ true) where
   loads-on LoadFor.ReadPage = refl
   loads-on LoadFor.Verify = refl
   loads-on (LoadFor.Marker why) = accepts (LoadFor.Marker why)
-  loads-on (LoadFor.Read offset len done) = refl
+  loads-on (LoadFor.Read p) = refl
 
   -- write_page's read-back: its length is a page
   verifies : (page : ℕ) → verify-on s page ≡ tree meaning (decide (page_read_then s page LoadFor.Verify))
@@ -468,7 +469,7 @@ module _ (s : Setup) (valid : in_bounds s.geometry ≡ true) where
   follows Phase.ReadingCache v = refl
   follows Phase.Comparing v = compares s v
   follows (Phase.ReadingMarker why) v = markers why v
-  follows (Phase.Reading offset len done) v = reads_on offset len (done + chunk_of s.geometry offset len done)
+  follows (Phase.Reading p) v = reads_on p.offset p.len (p.done + chunk_of s.geometry p.offset p.len p.done)
   follows Phase.LoadingData v = refl
   follows (Phase.LoadingPage page) v = programs s page (ProgramFor.WritePage page)
   follows (Phase.LoadingFiller block column) v = fills-on s block (column + filler_of s.geometry column)

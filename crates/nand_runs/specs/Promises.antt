@@ -16,7 +16,7 @@ use Rattle.flash_runs.specs.SameAsRust.{Regular}
 use Rattle.spi_nand.specs.declared.config.NandJedecId.{NandJedecId}
 use Rattle.spi_nand.specs.declared.config.SpiNandConfig.{SpiNandConfig}
 use Rattle.nand_phases.specs.declared.call.Call.{Call}
-use Rattle.nand_driver.specs.declared.state.SpiNandFlash.{SpiNandFlash}
+use Rattle.nand_driver.specs.Settle.{SpiNandFlash}
 use Rattle.nand_rust.specs.Observer.{reads_cache}
 use Rattle.nand_rust.specs.Program.{Left, rust_program, large_page}
 use Rattle.nand_rust.specs.ReadSeen.{ReadSeen}

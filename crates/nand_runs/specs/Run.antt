@@ -11,8 +11,8 @@ use Rattle.nand_phases.specs.declared.call.Call.{Call}
 use Rattle.nand_phases.specs.declared.setup.Setup.{Setup}
 use Rattle.nand_driver.specs.Call.{fresh_setup, nand_calls, begin_of}
 use Rattle.nand_driver.specs.Settle.{nand_shape}
-use Rattle.nand_reply.specs.Step.{step_of, delivered_part}
-use Rattle.nand_driver.specs.declared.state.SpiNandFlash.{SpiNandFlash}
+use Rattle.nand_driver.specs.Step.{step_of, delivered_part}
+use Rattle.nand_driver.specs.Settle.{SpiNandFlash}
 use Rattle.nand_rust.specs.Bound.{delay_bound, action_bound}
 use Rattle.nand_rust.specs.Observer.{reads_cache}
 use Rattle.nand_rust.specs.Program.{Left, program_of}

@@ -1,4 +1,7 @@
 -- Replies on which each function of the Rust's comes to its largest sum of delays, at a good end where it has one.
+use Rattle.std.specs.Prelude.{Option, Some, None}
+use Rattle.spi_nand.specs.declared.config.NandQuadConfig.{NandQuadConfig}
+use Rattle.spi_nand.specs.declared.config.NandGeometry.{NandGeometry}
 use Prim.Native.Nat.{ℕ, ◌+◌, ◌*◌, ◌%◌, ◌≤◌, ◌<◌}
 use native.Mathlib.Omega.{arith}
 use mathlib.Core.Bool.{true, false, not}
@@ -18,9 +21,7 @@ use Rattle.spi_flash.proofs.Loops.{ends-loop}
 use Rattle.spi_flash.proofs.Replies.{byte, zeros, delivery, same_bytes}
 use Rattle.spi_nand.specs.Config.{in_bounds}
 use Rattle.spi_nand.specs.Status.{WRITE-ENABLED, QUAD-ENABLE, OPERATIONAL, BLOCK-PROTECT-MASK, configuration_byte, write_enabled_of, erase_failed_of, program_failed_of, verdict_of, status_of, configuration_of, protection_of, quad_enabled_of, with_bits, same_configuration, block_protect_bits, is_unlocked}
-use Rattle.spi_nand.specs.declared.config.GeometrySetting.{GeometrySetting}
 use Rattle.spi_nand.specs.declared.config.NandInit.{NandInit}
-use Rattle.spi_nand.specs.declared.config.QuadSetting.{QuadSetting}
 use Rattle.spi_nand.specs.declared.config.SpiNandConfig.{SpiNandConfig}
 use Rattle.spi_nand.specs.declared.opcode.Operation.{Operation}
 use Rattle.spi_nand.proofs.Geometries.{geometries-hold}
@@ -96,7 +97,7 @@ module _ (given : List ℕ) where
   ends-ensure config = by config.quad
     where
       -- the wanted byte comes back
-      becomes : (q : QuadSetting) (after : ℕ) → after < 256 →
+      becomes : (q : Option NandQuadConfig) (after : ℕ) → after < 256 →
           not (same_configuration (wanted-of (record { quad = q; geometry = config.geometry }) (configuration_of 0)) (configuration_of 0)) ≡ true →
           not (same_configuration (configuration_of (after % 256)) (wanted-of (record { quad = q; geometry = config.geometry }) (configuration_of 0))) ≡ false →
           Ends given delays 10000 (configuration_of 0) (ensure-configuration (record { quad = q; geometry = config.geometry }))
@@ -104,9 +105,9 @@ module _ (given : List ℕ) where
           ends-bind _ {c = 10000} (ends-configuration 0 (lit< tt))
           (rw other (ends-then (ends-then (ends-write-register _ _) (ends-bind _ (ends-configuration after small) (ends-refuse _ _ same))) ends-ret))
 
-      by : (q : QuadSetting) → Ends given delays 10000 (configuration_of 0) (ensure-configuration (record { quad = q; geometry = config.geometry }))
-      by QuadSetting.Single = becomes QuadSetting.Single (configuration_byte OPERATIONAL) (lit< tt) refl refl
-      by (QuadSetting.Quad q) = becomes (QuadSetting.Quad q) (bit_or (configuration_byte OPERATIONAL) QUAD-ENABLE) (lit< tt) refl refl
+      by : (q : Option NandQuadConfig) → Ends given delays 10000 (configuration_of 0) (ensure-configuration (record { quad = q; geometry = config.geometry }))
+      by None = becomes None (configuration_byte OPERATIONAL) (lit< tt) refl refl
+      by (Some q) = becomes (Some q) (bit_or (configuration_byte OPERATIONAL) QUAD-ENABLE) (lit< tt) refl refl
 
   -- every block is protected
   pub ends-unprotect : Ends given delays 10000 (protection_of BLOCK-PROTECT-MASK) unprotect
@@ -121,9 +122,9 @@ module _ (given : List ℕ) where
       ends-bind _ ends-identify
       (ends-bind _ (ends-ensure config) (ends-bind _ ends-unprotect (ends-bind _ (ends-configuration 0 (lit< tt)) ends-ret)))
 
-  page-taken : (setting : GeometrySetting) → page_taken setting ≡ true → ltb MAX-VERIFY-PAGE-SIZE (resolved setting (id-of 0)).page_size ≡ false
-  page-taken GeometrySetting.Detect h = le-ltb MAX-VERIFY-PAGE-SIZE (resolved GeometrySetting.Detect (id-of 0)).page_size (geometries-hold.known (id-of 0)).page
-  page-taken (GeometrySetting.Given own) h = le-ltb MAX-VERIFY-PAGE-SIZE own.page_size (leb-true own.page_size MAX-VERIFY-PAGE-SIZE h)
+  page-taken : (setting : Option NandGeometry) → page_taken setting ≡ true → ltb MAX-VERIFY-PAGE-SIZE (resolved setting (id-of 0)).page_size ≡ false
+  page-taken None h = le-ltb MAX-VERIFY-PAGE-SIZE (resolved None (id-of 0)).page_size (geometries-hold.known (id-of 0)).page
+  page-taken (Some own) h = le-ltb MAX-VERIFY-PAGE-SIZE own.page_size (leb-true own.page_size MAX-VERIFY-PAGE-SIZE h)
 
   pub ends-with-config : (config : SpiNandConfig) → page_taken config.geometry ≡ true → Ends given delays 520000 (constructed config found) (with-config config)
   unfolding with-config
@@ -148,17 +149,17 @@ module _ (given : List ℕ) where
     unfolding read-cache cache_read_transfer
     ends-read-cache column n v sink room h = ends-guard _ _ (ap not room) (by flash.config.quad)
       where
-        by : (q : QuadSetting) → Ends given delays 0 v (transfer (cache_read_at q column n sink))
-        by QuadSetting.Single = ends-transfer v h
-        by (QuadSetting.Quad q) = ends-transfer v h
+        by : (q : Option NandQuadConfig) → Ends given delays 0 v (transfer (cache_read_at q column n sink))
+        by None = ends-transfer v h
+        by (Some q) = ends-transfer v h
 
     pub ends-load-data : (column n : ℕ) (payload : Payload) → in_cache flash.geometry column n ≡ true → Ends given delays 0 tt (load-program-data flash column n payload)
     unfolding load-program-data cache_load_transfer
     ends-load-data column n payload room = ends-guard _ _ (ap not room) (ends-then (by flash.config.quad) ends-ret)
       where
-        by : (q : QuadSetting) → Ends given delays 0 0 (transfer (cache_load_at q column payload))
-        by QuadSetting.Single = ends-transfer 0 refl
-        by (QuadSetting.Quad q) = ends-transfer 0 refl
+        by : (q : Option NandQuadConfig) → Ends given delays 0 0 (transfer (cache_load_at q column payload))
+        by None = ends-transfer 0 refl
+        by (Some q) = ends-transfer 0 refl
 
     pub ends-execute : (page : ℕ) → PageFits flash page → Ends given delays 400005 tt (program-execute flash page)
     unfolding program-execute program_failed_of

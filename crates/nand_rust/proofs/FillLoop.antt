@@ -1,30 +1,21 @@
 -- The loop of mark_bad_block's filler satisfies the Rust's equation, without fuel: each turn goes on by at least 1.
-use Prim.Native.Nat.{ℕ, ◌+◌, ◌-◌, ◌≤◌, ◌<◌}
+use Prim.Native.Nat.{ℕ, ◌+◌, ◌≤◌, ◌<◌}
 use native.Mathlib.Omega.{arith}
 use mathlib.Core.Path.{◌≡◌, refl}
 use lib.Dec.{ltb}
-use borrow.Author.Tests.{le-leb, lt-leb}
-use Rattle.qspi.proofs.Cases.{by_order}
 use Rattle.qspi.specs.declared.transfer.Payload.{Payload}
 use Rattle.std.specs.Prelude.{if◌then◌else◌}
 use Rattle.spi_flash.specs.Prog.{Prog, ret, ◌>>◌}
 use Rattle.spi_flash.proofs.Loops.{without-fuel}
 use Rattle.spi_nand.specs.declared.config.NandGeometry.{NandGeometry}
-use Rattle.nand_phases.specs.Transfer.{FILLER-CHUNK, filler_of}
+use Rattle.nand_phases.specs.Transfer.{filler_of}
 use Rattle.nand_phases.specs.declared.setup.Setup.{Setup}
 use Rattle.nand_rust.specs.Rust.{load-program-data, fill-loop, filling}
 
--- a piece is the rest of the page, or as much as the filler has
-pub filler-cases : (G : ℕ → Type 0) (g : NandGeometry) (column : ℕ) →
-    (g.page_size - column ≤ FILLER-CHUNK → G (g.page_size - column)) → (FILLER-CHUNK < g.page_size - column → G FILLER-CHUNK) → G (filler_of g column)
-unfolding filler_of
-filler-cases G g column all whole =
-    let rest = g.page_size - column in
-    by_order rest FILLER-CHUNK (λ l. rw (le-leb rest FILLER-CHUNK l) (all l)) (λ l. rw (lt-leb rest FILLER-CHUNK l) (whole l))
-
 -- a turn goes on
 pub filler-some : (g : NandGeometry) (column : ℕ) → column < g.page_size → 1 ≤ filler_of g column
-filler-some g column below = filler-cases (λ n. 1 ≤ n) g column (λ l. omega arith) (λ l. omega arith)
+unfolding filler_of
+filler-some g column below = omega arith
 
 module _ (flash : Setup) where
   abbrev page : ℕ

@@ -9,12 +9,12 @@ use borrow.Author.Tests.{lt-ltb, le-leb, lt-leb, ne_eqb}
 use Rattle.qspi.proofs.Cases.{by_order}
 use Rattle.spi_flash.proofs.Loops.{Counts}
 use Rattle.spi_flash.proofs.Pieces as pieces
+use Rattle.spi_flash.specs.Range.{range_in_bounds}
 use Rattle.spi_nand.specs.Config.{page_count_of, first_page_of, capacity_of, cache_size_of, in_bounds}
 use Rattle.spi_nand.specs.declared.config.NandGeometry.{NandGeometry}
 use Rattle.spi_nand.proofs.Geometries.{geometries-hold}
 use Rattle.nand_phases.specs.Transfer.{in_cache, in_range, place_of, page_at, column_at, chunk_of, FILLER-CHUNK, filler_of}
 use Rattle.nand_rust.specs.Bound.{first_touched, last_touched, pages_touched, fillers}
-use Rattle.nand_rust.proofs.FillLoop.{filler-cases}
 
 -- ---- numbers
 
@@ -61,7 +61,7 @@ module _ (g : NandGeometry) (bounds : in_bounds g ≡ true) where
 
   -- without spare bytes there is no marker
   pub no-marker : g.oob_size ≡ 0 → in_cache g page 1 ≡ false
-  unfolding in_cache cache_size_of
+  unfolding in_cache cache_size_of range_in_bounds
   no-marker z = let b = geometries-hold.bounded g bounds in rw (le-leb page (cache_size_of g) (omega arith)) (lt-leb 1 (cache_size_of g - page) (omega arith))
 
   -- ---- the pages of the device
@@ -122,9 +122,7 @@ module _ (g : NandGeometry) (bounds : in_bounds g ≡ true) where
     unfolding chunk_of
     chunk-within done below =
         let column : column_at g (place_of offset done) < page = mod-lt (place_of offset done) some-page in
-        pieces.piece-cases (λ n. (column_at g (place_of offset done) + n ≤ page) × (done + n ≤ len)) (page - column_at g (place_of offset done)) len done below
-        (λ l. (omega arith, omega arith))
-        (λ l. (omega arith, omega arith))
+        (omega arith, omega arith)
 
     -- behind a piece there is one page fewer
     pub one_fewer : (done : ℕ) → done < len → pages_left done ≡ suc (pages_left (done + chunk_of g offset len done))
@@ -134,7 +132,7 @@ module _ (g : NandGeometry) (bounds : in_bounds g ≡ true) where
         let r : a % page < page = mod-lt a some-page in
         let now = from-to a (len - done) (omega arith) in
         rw (place-of done (omega arith))
-        (pieces.piece-cases (λ n. pages_left done ≡ suc (pages_left (done + n))) (page - a % page) len done below
+        (pieces.piece-cases (λ n. pages_left done ≡ suc (pages_left (done + n))) (page - a % page) len done
         (λ l.
         let same = same-page page a (len - done) some-page (omega arith) (omega arith) in
         let later = no-pages (offset + (done + (len - done))) (len - (done + (len - done))) (omega arith) in
@@ -162,13 +160,12 @@ module _ (g : NandGeometry) (bounds : in_bounds g ≡ true) where
   -- ---- the filler
 
   pub filler-within : (column : ℕ) → column < page → column + filler_of g column ≤ page
-  filler-within column below = filler-cases (λ n. column + n ≤ page) g column (λ l. omega arith) (λ l. omega arith)
+  unfolding filler_of
+  filler-within column below = omega arith
 
   pub filler-turns : Counts page (λ column. column + filler_of g column) (λ k column. page - column ≤ k * FILLER-CHUNK)
-  filler-turns = record {
-    none = λ column t. omega arith;
-    fewer = λ k column below t. filler-cases (λ n. page - (column + n) ≤ k * FILLER-CHUNK) g column (λ l. omega arith) (λ l. omega arith);
-  }
+  unfolding filler_of
+  filler-turns = record { none = λ column t. omega arith; fewer = λ k column below t. omega arith }
 
   pub fillers-enough : page - 0 ≤ fillers g * FILLER-CHUNK
   fillers-enough = omega arith

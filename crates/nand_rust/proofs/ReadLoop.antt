@@ -1,5 +1,5 @@
 -- The loop of read satisfies the Rust's equation, without fuel: each turn goes on by at least 1.
-use Prim.Native.Nat.{ℕ, ◌+◌, ◌-◌, ◌≤◌, ◌<◌}
+use Prim.Native.Nat.{ℕ, ◌+◌, ◌≤◌, ◌<◌}
 use native.Mathlib.Omega.{arith}
 use native.Mathlib.Nat.{mod-lt}
 use mathlib.Core.Path.{◌≡◌, refl}
@@ -9,7 +9,6 @@ use Rattle.std.specs.Prelude.{if◌then◌else◌}
 use Rattle.spi_flash.specs.Prog.{Prog, ret, ◌>>◌}
 use Rattle.spi_flash.proofs.Laws.{then-assoc}
 use Rattle.spi_flash.proofs.Loops.{turn_of, without-fuel}
-use Rattle.spi_flash.proofs.Pieces.{piece-some}
 use Rattle.spi_nand.specs.declared.config.NandGeometry.{NandGeometry}
 use Rattle.nand_phases.specs.Transfer.{place_of, page_at, column_at, chunk_of}
 use Rattle.nand_phases.specs.declared.setup.Setup.{Setup}
@@ -18,8 +17,7 @@ use Rattle.nand_rust.specs.Rust.{page-read, read-cache, read-loop, reading}
 -- a turn goes on
 pub chunk-some : (g : NandGeometry) (offset len done : ℕ) → 1 ≤ g.page_size → done < len → 1 ≤ chunk_of g offset len done
 unfolding chunk_of
-chunk-some g offset len done some below =
-    piece-some (g.page_size - column_at g (place_of offset done)) len done (omega (arith, mod-lt (place_of offset done) some)) below
+chunk-some g offset len done some below = omega (arith, mod-lt (place_of offset done) some)
 
 module _ (flash : Setup) (some : 1 ≤ flash.geometry.page_size) (offset len : ℕ) where
   -- a turn: the page is loaded, and a piece of it read

@@ -1,4 +1,6 @@
 -- What the observer sees of the Rust's functions that load a page and read from the cache.
+use Rattle.std.specs.Prelude.{Option, Some, None}
+use Rattle.spi_nand.specs.declared.config.NandQuadConfig.{NandQuadConfig}
 use Prim.Native.Nat.{ℕ, zero, suc, ◌+◌, ◌/◌, ◌%◌, ◌^◌, ◌<◌}
 use native.Mathlib.Omega.{arith}
 use native.Mathlib.Nat.{zero-add}
@@ -25,7 +27,6 @@ use Rattle.spi_nand.specs.Command.{page_read_command, get_feature_command}
 use Rattle.spi_nand.specs.Config.{page_count_of}
 use Rattle.spi_nand.specs.Opcode.{REG-STATUS, timings_of}
 use Rattle.spi_nand.specs.Status.{ECC-MASK, status_of, busy_of, busy_value, verdict_at, verdict_of}
-use Rattle.spi_nand.specs.declared.config.QuadSetting.{QuadSetting}
 use Rattle.spi_nand.specs.declared.opcode.Operation.{Operation}
 use Rattle.spi_nand.specs.declared.status.Status.{Status}
 use Rattle.nand_phases.specs.Transfer.{register_transfer, cache_read_at, cache_read_transfer, in_cache}
@@ -206,14 +207,14 @@ module _ (R : List ℕ → List ReadByte → List ℕ → Bool → Type 0) where
     none : R t.loads (t.reads ++ []) t.bytes true
     none = rw (append-nil t.reads) q
 
-    cache : (quad : QuadSetting) → Sees Read (at false (judged page) t) (transfer (cache_read_at quad column n (Sink.Buffer place)))
-    cache QuadSetting.Single =
+    cache : (quad : Option NandQuadConfig) → Sees Read (at false (judged page) t) (transfer (cache_read_at quad column n (Sink.Buffer place)))
+    cache None =
         let exact = column-exact column small in
-        shows-transfer watcher Q (cache_read_at QuadSetting.Single column n (Sink.Buffer place))
+        shows-transfer watcher Q (cache_read_at None column n (Sink.Buffer place))
         (q, (q, ((q, q), (q, ((none, none), (λ new given e. rw (exact, behind-mine t.bytes new) (more new e, (more new e, (new, e, refl)))))))))
-    cache (QuadSetting.Quad quad) =
+    cache (Some quad) =
         let exact = column-exact column small in
-        shows-transfer watcher Q (cache_read_at (QuadSetting.Quad quad) column n (Sink.Buffer place))
+        shows-transfer watcher Q (cache_read_at (Some quad) column n (Sink.Buffer place))
         (q, (q, ((none, none), (λ new given e. rw (exact, behind-mine t.bytes new) (more new e, (more new e, (new, e, refl)))))))
 
     pub reading-cache : (flash : Setup) → Sees Read (at false (judged page) t) (read-cache flash column n (Sink.Buffer place))

@@ -4,8 +4,7 @@ use native.Mathlib.Omega.{arith}
 use mathlib.Core.Bool.{true, false}
 use mathlib.Core.Path.{◌≡◌, ap, subst}
 use mathlib.Core.List.{List, [], ◌∷◌}
-use Rattle.frames.specs.Frame.{first_of}
-use Rattle.frames.specs.declared.frame.Outcome.{Outcome}
+use Rattle.frames.specs.Frame.{Outcome, first_of}
 use Rattle.qspi.specs.declared.transfer.Transfer.{Transfer}
 use Rattle.spi_flash.specs.Loan.{Lent}
 use Rattle.spi_flash.specs.Path.{delays, Bounded, AtLeast}

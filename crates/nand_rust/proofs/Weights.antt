@@ -1,4 +1,6 @@
 -- Upper bounds on the Rust's programs, by any weight of the transfers.
+use Rattle.std.specs.Prelude.{Option, Some, None}
+use Rattle.spi_nand.specs.declared.config.NandQuadConfig.{NandQuadConfig}
 use Prim.Native.Nat.{ℕ, ◌+◌, ◌*◌, ◌≤◌}
 use native.Mathlib.Omega.{arith}
 use mathlib.Core.Bool.{true, not}
@@ -18,7 +20,6 @@ use Rattle.flash_runs.proofs.Weighing.{sunk, Weighs}
 use Rattle.qspi.proofs.Cases.{by_cases}
 use Rattle.spi_nand.specs.Config.{single_config, in_bounds}
 use Rattle.spi_nand.specs.Status.{quad_enabled_of, same_configuration, is_unlocked}
-use Rattle.spi_nand.specs.declared.config.QuadSetting.{QuadSetting}
 use Rattle.spi_nand.specs.declared.config.SpiNandConfig.{SpiNandConfig}
 use Rattle.spi_nand.specs.declared.opcode.Operation.{Operation}
 use Rattle.nand_phases.specs.Transfer.{cache_read_at, cache_read_transfer, cache_load_at, cache_load_transfer}
@@ -33,13 +34,13 @@ use Rattle.nand_rust.proofs.FillLoop.{filling-loop}
 
 module _ {w : Transfer → ℕ} {x : Figures Operation} (figures : Weighs w x wait-ready) where
   -- the cache, single-line or quad
-  taken : (q : QuadSetting) (column n : ℕ) (sink : Sink) → w (cache_read_at q column n sink) ≤ sunk x sink
-  taken QuadSetting.Single column n sink = figures.framed _ _
-  taken (QuadSetting.Quad q) column n sink = figures.framed _ _
+  taken : (q : Option NandQuadConfig) (column n : ℕ) (sink : Sink) → w (cache_read_at q column n sink) ≤ sunk x sink
+  taken None column n sink = figures.framed _ _
+  taken (Some q) column n sink = figures.framed _ _
 
-  loaded : (q : QuadSetting) (column : ℕ) (payload : Payload) → w (cache_load_at q column payload) ≤ x.moved
-  loaded QuadSetting.Single column payload = figures.framed _ _
-  loaded (QuadSetting.Quad q) column payload = figures.framed _ _
+  loaded : (q : Option NandQuadConfig) (column : ℕ) (payload : Payload) → w (cache_load_at q column payload) ≤ x.moved
+  loaded None column payload = figures.framed _ _
+  loaded (Some q) column payload = figures.framed _ _
 
   -- ---- registers
 

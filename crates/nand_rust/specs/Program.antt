@@ -1,6 +1,7 @@
 -- The Rust's program of each call, with the answer and the driver that it leaves behind; and the program that the port follows, which
 -- differs in one place.
-use Rattle.std.specs.Prelude.{ℕ, Bool, true, false, not, leb}
+use Rattle.spi_nand.specs.declared.config.NandGeometry.{NandGeometry}
+use Rattle.std.specs.Prelude.{ℕ, Bool, true, false, not, leb, Option, Some, None}
 use Rattle.qspi.specs.Choice.{pick}
 use Rattle.qspi.specs.declared.transfer.Payload.{Payload}
 use Rattle.qspi.specs.declared.transfer.Sink.{Sink}
@@ -9,7 +10,6 @@ use Rattle.spi_flash.specs.Prog.{Prog, ret, fail, ◌>>=◌, ◌>>◌, transfer}
 use Rattle.spi_flash.specs.declared.error.FlashError.{FlashError}
 use Rattle.flash_runs.specs.Driver as Driver
 use Rattle.flash_runs.specs.Driver.{leaving}
-use Rattle.spi_nand.specs.declared.config.GeometrySetting.{GeometrySetting}
 use Rattle.nand_answers.specs.declared.answer.Answer.{Answer}
 use Rattle.nand_phases.specs.declared.setup.Setup.{Setup}
 use Rattle.nand_phases.specs.declared.call.Call.{Call}
@@ -52,9 +52,9 @@ rust_program flash (Call.MarkBadBlock block) b d = mark-bad-block flash block >>
 -- ---- the port's
 
 -- "page above 4,096 NAND": a detected geometry has a page of 2,048
-abbrev pub page_taken : GeometrySetting → Bool
-page_taken GeometrySetting.Detect = true
-page_taken (GeometrySetting.Given own) = leb own.page_size MAX-VERIFY-PAGE-SIZE
+abbrev pub page_taken : Option NandGeometry → Bool
+page_taken None = true
+page_taken (Some own) = leb own.page_size MAX-VERIFY-PAGE-SIZE
 
 -- a construction whose page is too large
 abbrev pub large_page : Call → Bool

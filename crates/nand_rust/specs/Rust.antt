@@ -3,7 +3,8 @@
 -- commands of spi_nand.
 -- `transfer` is one select frame of the Rust (`command`, `command_then_read`, or a quad call between cs_low and cs_high) or one
 -- delay; a bus error in it ends the call, as `?` does. Their bus calls are in `OnBus.antt` of spi_flash.
-use Rattle.std.specs.Prelude.{ℕ, zero, suc, ◌+◌, ◌-◌, ◌/◌, ◌%◌, Bool, true, false, not, ltb, eqb, if◌then◌else◌}
+use Rattle.spi_nand.specs.declared.config.NandQuadConfig.{NandQuadConfig}
+use Rattle.std.specs.Prelude.{ℕ, zero, suc, ◌+◌, ◌-◌, ◌/◌, ◌%◌, Bool, true, false, not, ltb, eqb, if◌then◌else◌, Option, Some, None}
 use Rattle.std.specs.Int.Bits.{bit_or}
 use Rattle.qspi.specs.Transfer.{command_only}
 use Rattle.qspi.specs.declared.transfer.Payload.{Payload}
@@ -18,11 +19,9 @@ use Rattle.spi_nand.specs.Config.{page_count_of, first_page_of, single_config, f
 use Rattle.spi_nand.specs.Command.{reset_command, get_feature_command, set_feature_command, write_enable_command, page_read_command, program_execute_command, block_erase_command}
 use Rattle.nand_phases.specs.Transfer.{register_transfer, id_transfer, cache_read_transfer, cache_load_transfer, in_cache, in_range, place_of, page_at, column_at, chunk_of, filler_of}
 use Rattle.nand_phases.specs.Setup.{init_of, setup_of}
-use Rattle.spi_nand.specs.declared.config.GeometrySetting.{GeometrySetting}
 use Rattle.spi_nand.specs.declared.config.NandGeometry.{NandGeometry}
 use Rattle.spi_nand.specs.declared.config.NandInit.{NandInit}
 use Rattle.spi_nand.specs.declared.config.NandJedecId.{NandJedecId}
-use Rattle.spi_nand.specs.declared.config.QuadSetting.{QuadSetting}
 use Rattle.spi_nand.specs.declared.config.SpiNandConfig.{SpiNandConfig}
 use Rattle.spi_nand.specs.declared.opcode.Operation.{Operation}
 use Rattle.spi_nand.specs.declared.status.Configuration.{Configuration}
@@ -113,9 +112,9 @@ reset-and-identify = do
   jedec-id
 
 -- fn ensure_configuration
-abbrev pub quad-wanted : QuadSetting → Configuration → Configuration
-quad-wanted QuadSetting.Single wanted = wanted
-quad-wanted (QuadSetting.Quad q) wanted = with_bits wanted QUAD-ENABLE QUAD-ENABLE
+abbrev pub quad-wanted : Option NandQuadConfig → Configuration → Configuration
+quad-wanted None wanted = wanted
+quad-wanted (Some q) wanted = with_bits wanted QUAD-ENABLE QUAD-ENABLE
 
 abbrev pub wanted-of : SpiNandConfig → Configuration → Configuration
 wanted-of config before = quad-wanted config.quad (with_bits before (bit_or ECC-ENABLE BUFFER-READ) (configuration_byte OPERATIONAL))
@@ -289,9 +288,9 @@ module _ (flash : Setup) where
       refuse (not marked) FlashError.VerifyFailed
 
 -- fn with_config
-abbrev pub resolved : GeometrySetting → NandJedecId → NandGeometry
-resolved GeometrySetting.Detect id = from_jedec id
-resolved (GeometrySetting.Given own) id = own
+abbrev pub resolved : Option NandGeometry → NandJedecId → NandGeometry
+resolved None id = from_jedec id
+resolved (Some own) id = own
 
 abbrev pub constructed : SpiNandConfig → NandInit → Setup
 constructed config init = setup_of config (resolved config.geometry init.id) init

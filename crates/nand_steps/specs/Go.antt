@@ -16,14 +16,8 @@ use Rattle.nand_phases.specs.declared.phase.ResetFor.{ResetFor}
 use Rattle.nand_phases.specs.declared.phase.Task.{Task}
 use Rattle.nand_phases.specs.declared.phase.WaitStep.{WaitStep}
 use Rattle.nand_phases.specs.declared.setup.Setup.{Setup}
-use Rattle.nand_steps.specs.declared.then.Next.{Next}
-use Rattle.nand_steps.specs.declared.then.Then.{Then}
-
-abbrev pub go_to : Setup → Transfer → Phase → Then
-go_to setup transfer phase = Then.On setup (Next.Go transfer phase)
-
-abbrev pub end_with : Setup → Answer → Then
-end_with setup answer = Then.On setup (Next.End answer)
+use Rattle.nand_steps.specs.Then.{Then}
+pub use Rattle.machine.specs.Then.{go_to, end_with}
 
 -- `Ok(())`
 abbrev pub done : Setup → Then

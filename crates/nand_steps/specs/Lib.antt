@@ -1,2 +1,3 @@
+pub mod Then
 pub mod Go
 pub mod Register

@@ -1,15 +1,14 @@
 -- The feature registers (nand/driver.rs: bring_up, ensure_configuration, unprotect, disable_quad), cut where they use the bus.
-use Rattle.std.specs.Prelude.{ℕ, ◌/◌, ◌%◌, Bool, true, false, leb}
+use Rattle.std.specs.Prelude.{ℕ, ◌/◌, ◌%◌, Bool, true, false, leb, Err, Option, Some, None}
+use Rattle.spi_nand.specs.declared.config.NandQuadConfig.{NandQuadConfig}
 use Rattle.std.specs.Int.Bits.{bit_or}
 use Rattle.qspi.specs.Choice.{pick}
 use Rattle.spi_flash.specs.declared.error.FlashError.{FlashError}
 use Rattle.spi_nand.specs.Config.{from_jedec}
 use Rattle.spi_nand.specs.Opcode.{REG-CONFIGURATION, REG-BLOCK-PROTECTION}
 use Rattle.spi_nand.specs.Status.{ECC-ENABLE, BUFFER-READ, QUAD-ENABLE, OPERATIONAL, configuration_byte, protection_of, protection_byte, quad_enabled_of, with_bits, same_configuration, is_unlocked}
-use Rattle.spi_nand.specs.declared.config.GeometrySetting.{GeometrySetting}
 use Rattle.spi_nand.specs.declared.config.NandGeometry.{NandGeometry}
 use Rattle.spi_nand.specs.declared.config.NandJedecId.{NandJedecId}
-use Rattle.spi_nand.specs.declared.config.QuadSetting.{QuadSetting}
 use Rattle.spi_nand.specs.declared.config.SpiNandConfig.{SpiNandConfig}
 use Rattle.spi_nand.specs.declared.status.Configuration.{Configuration}
 use Rattle.spi_nand.specs.declared.status.Protection.{Protection}
@@ -21,7 +20,7 @@ use Rattle.nand_phases.specs.declared.phase.EnableFor.{EnableFor}
 use Rattle.nand_phases.specs.declared.phase.RegisterFor.{RegisterFor}
 use Rattle.nand_phases.specs.declared.setup.Setup.{Setup}
 use Rattle.nand_steps.specs.Go.{end_with, done, ask, enable}
-use Rattle.nand_steps.specs.declared.then.Then.{Then}
+use Rattle.nand_steps.specs.Then.{Then}
 
 -- MAX_VERIFY_PAGE_SIZE
 abbrev pub MAX-VERIFY-PAGE-SIZE : ℕ
@@ -33,9 +32,9 @@ MAX-VERIFY-PAGE-SIZE = 4096
 abbrev pub id_of : ℕ → NandJedecId
 id_of v = record { manufacturer = v / 65536 % 256; device = v % 65536 }
 
-abbrev pub geometry_at : GeometrySetting → NandGeometry → NandJedecId → NandGeometry
-geometry_at GeometrySetting.Detect geometry id = from_jedec id
-geometry_at (GeometrySetting.Given own) geometry id = geometry
+abbrev pub geometry_at : Option NandGeometry → NandGeometry → NandJedecId → NandGeometry
+geometry_at None geometry id = from_jedec id
+geometry_at (Some own) geometry id = geometry
 
 -- with_config: `if config.geometry.is_none() { flash.geometry = from_jedec(id) }`
 unfoldable pub geometry_for : Setup → NandJedecId → NandGeometry
@@ -46,7 +45,7 @@ unfoldable pub identified_then : Setup → NandJedecId → Then
 identified_then setup id =
     pick (leb (geometry_for setup id).page_size MAX-VERIFY-PAGE-SIZE)
     (ask (identified_as setup (geometry_for setup id) id) REG-CONFIGURATION (Asked.Configure in_bring_up))
-    (Then.Fail FlashError.NotSupported)
+    (Err FlashError.NotSupported)
 
 -- the last read of bring_up
 abbrev pub brought_up : Setup → Configuration → Then
@@ -54,9 +53,9 @@ brought_up setup after = done (with_after setup after)
 
 -- ---- ensure_configuration
 
-abbrev pub with_quad : QuadSetting → Configuration → Configuration
-with_quad QuadSetting.Single c = c
-with_quad (QuadSetting.Quad q) c = with_bits c QUAD-ENABLE QUAD-ENABLE
+abbrev pub with_quad : Option NandQuadConfig → Configuration → Configuration
+with_quad None c = c
+with_quad (Some q) c = with_bits c QUAD-ENABLE QUAD-ENABLE
 
 -- `wanted`
 unfoldable pub wanted_for : SpiNandConfig → Configuration → Configuration
@@ -75,7 +74,7 @@ configure_then setup before bring_up =
 -- `if self.read_configuration()? != wanted`
 unfoldable pub check_configuration : Setup → Configuration → Bool → Configuration → Then
 check_configuration setup before bring_up after =
-    pick (same_configuration after (wanted_for setup.config before)) (configured_then setup before bring_up) (Then.Fail FlashError.NotSupported)
+    pick (same_configuration after (wanted_for setup.config before)) (configured_then setup before bring_up) (Err FlashError.NotSupported)
 
 -- ---- unprotect
 
@@ -97,7 +96,7 @@ disable_quad setup before =
     (done setup)
 
 unfoldable pub quad_disabled : Setup → Configuration → Then
-quad_disabled setup after = pick (quad_enabled_of after) (Then.Fail FlashError.NotSupported) (done setup)
+quad_disabled setup after = pick (quad_enabled_of after) (Err FlashError.NotSupported) (done setup)
 
 -- ---- behind write_register
 

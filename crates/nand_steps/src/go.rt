@@ -1,8 +1,9 @@
 // The steps that calls are made of.
 ghost use Rattle.std.specs.Prelude.{◌≡◌};
-ghost use Rattle.nand_steps.specs.Go.{go_to, end_with, done, ask, ask_id, look, verdict, send, reset, enable};
+ghost use Rattle.nand_steps.specs.Go.{done, ask, ask_id, look, verdict, send, reset, enable};
 
-use crate::then::{Next, Then};
+use crate::then::Then;
+pub use machine::then::{end, go};
 use nand_answers::answer::Answer;
 use nand_phases::phase::{Asked, EnableFor, EnableStep, Phase, ResetFor, Task, WaitStep};
 use nand_phases::setup::Setup;
@@ -10,27 +11,6 @@ use nand_phases::transfer;
 use qspi::command::Command;
 use qspi::transfer::Transfer;
 use spi_nand::{command, opcode};
-
-pub fn go(setup: Setup, transfer: Transfer, phase: Phase) -> Then
-    ensures { result ≡ go_to setup transfer phase }
-{
-    Then::On {
-        setup: setup,
-        next: Next::Go {
-            transfer: transfer,
-            phase: phase,
-        },
-    }
-}
-
-pub fn end(setup: Setup, answer: Answer) -> Then
-    ensures { result ≡ end_with setup answer }
-{
-    Then::On {
-        setup: setup,
-        next: Next::End(answer),
-    }
-}
 
 // `Ok(())`
 pub fn done(setup: Setup) -> Then
@@ -57,7 +37,7 @@ pub fn ask_id(setup: Setup, bring_up: bool) -> Then
     go(
         setup,
         transfer::id_transfer(),
-        Phase::Asking(Asked::Id { bring_up: bring_up }),
+        Phase::Asking(Asked::Id { bring_up }),
     )
 }
 
@@ -79,7 +59,7 @@ pub fn verdict(setup: Setup, task: Task) -> Then
     look(
         setup,
         Phase::Waiting {
-            task: task,
+            task,
             at: WaitStep::Verdict,
             waited: 0,
         },
@@ -94,7 +74,7 @@ pub fn send(setup: Setup, command: Command, task: Task) -> Then
         setup,
         qspi::transfer::command_only(command),
         Phase::Waiting {
-            task: task,
+            task,
             at: WaitStep::Command,
             waited: 0,
         },
@@ -116,7 +96,7 @@ pub fn enable(setup: Setup, why: EnableFor) -> Then
         setup,
         qspi::transfer::command_only(command::write_enable_command()),
         Phase::Enabling {
-            why: why,
+            why,
             at: EnableStep::Command,
         },
     )

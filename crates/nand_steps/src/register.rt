@@ -8,7 +8,7 @@ use nand_answers::answer::Answer;
 use nand_phases::phase::{Asked, EnableFor, RegisterFor};
 use nand_phases::setup::Setup;
 use spi_flash::error::FlashError;
-use spi_nand::config::{GeometrySetting, NandGeometry, NandJedecId, QuadSetting, SpiNandConfig};
+use spi_nand::config::{NandGeometry, NandJedecId, SpiNandConfig};
 use spi_nand::opcode;
 use spi_nand::status::{Configuration, Protection};
 
@@ -19,25 +19,26 @@ pub const MAX_VERIFY_PAGE_SIZE: usize = 4096;
 pub fn id_of(v: u64) -> NandJedecId
     ensures { result ≡ id_of v }
 {
+    let [.., manufacturer, high, low] = v.to_be_bytes();
     NandJedecId {
-        manufacturer: (v / 65536 % 256) as u8,
-        device: (v % 65536) as u16,
+        manufacturer,
+        device: u16::from_be_bytes([high, low]),
     }
 }
 
 // The caller's own geometry stays; else it is that of the id.
+#[tactic(auto, unfolding(crate::specs::Register::geometry_for))]
 fn geometry_for(setup: Setup, id: NandJedecId) -> NandGeometry
     ensures { result ≡ geometry_for setup id }
 {
-    let config = setup.config;
-    let setting = config.geometry;
-    match setting {
-        GeometrySetting::Detect => NandGeometry::from_jedec(id),
-        GeometrySetting::Given(_) => setup.geometry,
+    match setup.config.geometry {
+        None => NandGeometry::from_jedec(id),
+        Some(_) => setup.geometry,
     }
 }
 
 // bring_up, once the id has been read. A page that is too large is refused before anything is written to the part.
+#[tactic(auto, unfolding(crate::specs::Register::identified_then))]
 pub fn identified(setup: Setup, id: NandJedecId) -> Then
     ensures { result ≡ identified_then setup id }
 {
@@ -49,12 +50,13 @@ pub fn identified(setup: Setup, id: NandJedecId) -> Then
             Asked::Configure { bring_up: true },
         );
     }
-    Then::Fail(FlashError::NotSupported)
+    Err(FlashError::NotSupported)
 }
 
 // ---- ensure_configuration
 
 // ECC and buffer reads, and quad mode where it is configured.
+#[tactic(auto, unfolding(crate::specs::Register::wanted_for))]
 fn wanted(config: SpiNandConfig, before: Configuration) -> Configuration
     ensures { result ≡ wanted_for config before }
 {
@@ -62,21 +64,19 @@ fn wanted(config: SpiNandConfig, before: Configuration) -> Configuration
         Configuration::ECC_ENABLE | Configuration::BUFFER_READ,
         Configuration::OPERATIONAL.byte(),
     );
-    let quad = config.quad;
-    match quad {
-        QuadSetting::Single => operational,
-        QuadSetting::Quad(_) => {
-            operational.with_bits(Configuration::QUAD_ENABLE, Configuration::QUAD_ENABLE)
-        }
+    match config.quad {
+        None => operational,
+        Some(_) => { operational.with_bits(Configuration::QUAD_ENABLE, Configuration::QUAD_ENABLE) }
     }
 }
 
 // The register as it was read: it is written where it is not as wanted.
+#[tactic(auto, unfolding(crate::specs::Register::configure_then, spi_nand::specs::Status::same_configuration))]
 pub fn configure(setup: Setup, before: Configuration, bring_up: bool) -> Then
     ensures { result ≡ configure_then setup before bring_up }
 {
     let after = wanted(setup.config, before);
-    if after.same(before) {
+    if after == before {
         return configured(setup, before, bring_up);
     }
     go::enable(
@@ -86,13 +86,14 @@ pub fn configure(setup: Setup, before: Configuration, bring_up: bool) -> Then
             value: after.byte(),
             why: RegisterFor::Configure {
                 before: before.byte(),
-                bring_up: bring_up,
+                bring_up,
             },
         },
     )
 }
 
 // `Ok(before)`; bring_up keeps it and goes on with unprotect.
+#[tactic(auto, unfolding(crate::specs::Register::configured_then))]
 fn configured(setup: Setup, before: Configuration, bring_up: bool) -> Then
     ensures { result ≡ configured_then setup before bring_up }
 {
@@ -107,6 +108,7 @@ fn configured(setup: Setup, before: Configuration, bring_up: bool) -> Then
 }
 
 // The register read back.
+#[tactic(auto, unfolding(crate::specs::Register::check_configuration, spi_nand::specs::Status::same_configuration))]
 pub fn check_configuration(
     setup: Setup,
     before: Configuration,
@@ -115,14 +117,15 @@ pub fn check_configuration(
 ) -> Then
     ensures { result ≡ check_configuration setup before bring_up after }
 {
-    if after.same(wanted(setup.config, before)) {
+    if after == wanted(setup.config, before) {
         return configured(setup, before, bring_up);
     }
-    Then::Fail(FlashError::NotSupported)
+    Err(FlashError::NotSupported)
 }
 
 // ---- unprotect
 
+#[tactic(auto, unfolding(crate::specs::Register::unprotect_then))]
 pub fn unprotect(setup: Setup, before: Protection, bring_up: bool) -> Then
     ensures { result ≡ unprotect_then setup before bring_up }
 {
@@ -136,13 +139,14 @@ pub fn unprotect(setup: Setup, before: Protection, bring_up: bool) -> Then
             value: 0x00,
             why: RegisterFor::Unprotect {
                 before: before.byte(),
-                bring_up: bring_up,
+                bring_up,
             },
         },
     )
 }
 
 // `Ok(before)`; bring_up keeps it and reads the configuration a last time.
+#[tactic(auto, unfolding(crate::specs::Register::unprotected_then))]
 fn unprotected(setup: Setup, before: Protection, bring_up: bool) -> Then
     ensures { result ≡ unprotected_then setup before bring_up }
 {
@@ -165,6 +169,7 @@ pub fn brought_up(setup: Setup, after: Configuration) -> Then
 
 // ---- disable_quad
 
+#[tactic(auto, unfolding(crate::specs::Register::disable_quad))]
 pub fn disable_quad(setup: Setup, before: Configuration) -> Then
     ensures { result ≡ disable_quad setup before }
 {
@@ -182,37 +187,34 @@ pub fn disable_quad(setup: Setup, before: Configuration) -> Then
     go::done(setup)
 }
 
+#[tactic(auto, unfolding(crate::specs::Register::quad_disabled))]
 pub fn quad_disabled(setup: Setup, after: Configuration) -> Then
     ensures { result ≡ quad_disabled setup after }
 {
     if after.quad_enabled() {
-        return Then::Fail(FlashError::NotSupported);
+        return Err(FlashError::NotSupported);
     }
     go::done(setup)
 }
 
 // ---- the end of write_register's wait
 
+#[tactic(auto, unfolding(crate::specs::Register::written_then))]
 pub fn written(setup: Setup, why: RegisterFor) -> Then
     ensures { result ≡ written_then setup why }
 {
     match why {
-        RegisterFor::Call => return go::done(setup),
-        RegisterFor::Configure { before, bring_up } => {
-            return go::ask(
-                setup,
-                opcode::REG_CONFIGURATION,
-                Asked::Configured {
-                    before: before,
-                    bring_up: bring_up,
-                },
-            );
-        }
+        RegisterFor::Call => go::done(setup),
+        RegisterFor::Configure { before, bring_up } => go::ask(
+            setup,
+            opcode::REG_CONFIGURATION,
+            Asked::Configured { before, bring_up },
+        ),
         RegisterFor::DisableQuad => {
-            return go::ask(setup, opcode::REG_CONFIGURATION, Asked::QuadDisabled);
+            go::ask(setup, opcode::REG_CONFIGURATION, Asked::QuadDisabled)
         }
         RegisterFor::Unprotect { before, bring_up } => {
-            return unprotected(setup, Protection::from_byte(before), bring_up);
+            unprotected(setup, Protection::from_byte(before), bring_up)
         }
     }
 }

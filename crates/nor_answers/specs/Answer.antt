@@ -1,10 +1,9 @@
 -- The values of an answer, in the order in which a trace prints them.
-use Rattle.std.specs.Prelude.{ℕ, List, [], ◌∷◌, ◌++◌}
+use Rattle.spi_nor.specs.declared.config.NorQuadConfig.{NorQuadConfig}
+use Rattle.std.specs.Prelude.{ℕ, List, [], ◌∷◌, ◌++◌, Option, Some, None}
 use Rattle.values.specs.Value.{flag_value}
-use Rattle.spi_nor.specs.declared.config.DeviceSetting.{DeviceSetting}
 use Rattle.spi_nor.specs.declared.config.NorDeviceInfo.{NorDeviceInfo}
 use Rattle.spi_nor.specs.declared.config.NorJedecId.{NorJedecId}
-use Rattle.spi_nor.specs.declared.config.QuadSetting.{QuadSetting}
 use Rattle.nor_answers.specs.declared.answer.Answer.{Answer}
 
 abbrev pub id_values : NorJedecId → List ℕ
@@ -13,13 +12,16 @@ id_values id = id.manufacturer ∷ id.memory_type ∷ id.capacity ∷ []
 abbrev pub device_values : NorDeviceInfo → List ℕ
 device_values d = d.capacity ∷ d.sector_size ∷ d.block_size ∷ d.page_size ∷ []
 
-abbrev pub quad_values : QuadSetting → List ℕ
-quad_values QuadSetting.Single = 0 ∷ []
-quad_values (QuadSetting.Quad q) = 1 ∷ q.tclqv_ns ∷ q.read_opcode ∷ q.page_program_opcode ∷ q.dummy_margin ∷ []
+abbrev pub quad_numbers : NorQuadConfig → List ℕ
+quad_numbers q = q.tclqv_ns ∷ q.read_opcode ∷ q.page_program_opcode ∷ q.dummy_margin ∷ []
 
-abbrev pub own_values : DeviceSetting → List ℕ
-own_values DeviceSetting.Detect = 0 ∷ []
-own_values (DeviceSetting.Given d) = 1 ∷ device_values d
+abbrev pub quad_values : Option NorQuadConfig → List ℕ
+quad_values None = 0 ∷ []
+quad_values (Some q) = 1 ∷ quad_numbers q
+
+abbrev pub own_values : Option NorDeviceInfo → List ℕ
+own_values None = 0 ∷ []
+own_values (Some d) = 1 ∷ device_values d
 
 abbrev pub answer_values : Answer → List ℕ
 answer_values Answer.Done = []

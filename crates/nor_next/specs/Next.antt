@@ -1,6 +1,7 @@
 -- What follows each transfer of a call: nor/driver.rs, cut where it uses the bus.
-use Rattle.std.specs.Prelude.{ℕ, ◌+◌, ◌%◌, not}
-use Rattle.frames.specs.declared.frame.Outcome.{Outcome}
+use Rattle.std.specs.Prelude.{ℕ, ◌+◌, not, Ok, Err}
+use Rattle.qspi.specs.Bytes.{byte_of}
+use Rattle.frames.specs.Frame.{Outcome}
 use Rattle.spi_flash.specs.declared.error.FlashError.{FlashError}
 use Rattle.spi_nor.specs.Status.{busy_of, quad_enabled1_of, quad_enabled2_of}
 use Rattle.nor_phases.specs.Transfer.{chunk_of}
@@ -8,17 +9,13 @@ use Rattle.nor_phases.specs.declared.phase.Phase.{Phase}
 use Rattle.nor_phases.specs.declared.phase.Task.{Task}
 use Rattle.nor_answers.specs.declared.answer.Answer.{Answer}
 use Rattle.nor_phases.specs.declared.setup.Setup.{Setup}
-use Rattle.nor_steps.specs.declared.then.Then.{Then}
+use Rattle.nor_steps.specs.Then.{Then}
 use Rattle.nor_steps.specs.Go.{end_with, read1_then, read2_then, read_id_then, enabled_then, done_if, supported_if}
 use Rattle.nor_steps.specs.Register.{id_of, identified_then, disable_first, disable_second, quad_flag}
 use Rattle.nor_steps.specs.Protection.{unprotect_first}
 use Rattle.nor_pages.specs.Read.{read_from}
 use Rattle.nor_pages.specs.Write.{verified_then}
 use Rattle.nor_next.specs.Wait.{writing_then}
-
--- buffer[0] of a register's one byte
-abbrev pub byte_of : ℕ → ℕ
-byte_of v = v % 256
 
 -- what follows a transfer that gave v
 unfoldable pub after_phase : Setup → Phase → ℕ → Then
@@ -44,11 +41,11 @@ after_phase setup Phase.DisableVerify1 v = supported_if (not (quad_enabled1_of (
 after_phase setup Phase.UnprotectRead1 v = read2_then setup (Phase.UnprotectRead2 (byte_of v))
 after_phase setup (Phase.UnprotectRead2 before) v = unprotect_first setup before (byte_of v)
 after_phase setup (Phase.UnprotectAfter before) v = end_with setup (Answer.Unprotected before (byte_of v))
-after_phase setup (Phase.Reading offset len done) v = read_from setup offset len (done + chunk_of len done)
-after_phase setup (Phase.Verifying offset len done) v = verified_then setup offset len done v
+after_phase setup (Phase.Reading s) v = read_from setup s.offset s.len (s.done + chunk_of s.len s.done)
+after_phase setup (Phase.Verifying s) v = verified_then setup s.offset s.len s.done v
 after_phase setup (Phase.Writing task at waited) v = writing_then setup task at waited (byte_of v)
 
 -- a bus error ends the call: `map_err(FlashError::Spi)?`
 unfoldable pub next_of : Setup → Phase → Outcome → Then
-next_of setup phase (Outcome.Value v) = after_phase setup phase v
-next_of setup phase (Outcome.Failed code) = Then.Fail (FlashError.Spi code)
+next_of setup phase (Ok v) = after_phase setup phase v
+next_of setup phase (Err error) = Err (FlashError.Spi error.0)

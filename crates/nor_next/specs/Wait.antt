@@ -1,5 +1,5 @@
 -- A write to the part (nor/driver.rs: write_enable, the command, wait_ready), cut where it uses the bus, and what goes on behind it.
-use Rattle.std.specs.Prelude.{ℕ}
+use Rattle.std.specs.Prelude.{ℕ, Err}
 use Rattle.qspi.specs.Choice.{pick}
 use Rattle.qspi.specs.declared.transfer.Transfer.{Transfer}
 use Rattle.spi_flash.specs.Wait.{first_wait, next_wait}
@@ -12,7 +12,7 @@ use Rattle.nor_phases.specs.declared.phase.Phase.{Phase}
 use Rattle.nor_phases.specs.declared.phase.Task.{Task}
 use Rattle.nor_phases.specs.declared.phase.WriteStep.{WriteStep}
 use Rattle.nor_phases.specs.declared.setup.Setup.{Setup}
-use Rattle.nor_steps.specs.declared.then.Then.{Then}
+use Rattle.nor_steps.specs.Then.{Then}
 use Rattle.nor_steps.specs.Go.{go_to, read1_then, read2_then}
 use Rattle.nor_steps.specs.Protection.{unprotect_second}
 use Rattle.nor_pages.specs.Write.{verify_then}
@@ -25,7 +25,7 @@ latch_then setup task = read1_then setup (Phase.Writing task WriteStep.Latch 0)
 -- write_enable: `if self.read_status1()? & status::WRITE_ENABLE_LATCH == 0`, and the command behind it
 unfoldable pub latched_then : Setup → Task → ℕ → Then
 latched_then setup task status1 =
-    pick (write_enabled_of status1) (go_to setup (task_transfer setup task) (Phase.Writing task WriteStep.Command 0)) (Then.Fail FlashError.WriteEnableFailed)
+    pick (write_enabled_of status1) (go_to setup (task_transfer setup task) (Phase.Writing task WriteStep.Command 0)) (Err FlashError.WriteEnableFailed)
 
 -- what stands behind `self.wait_ready(..)?` of each
 unfoldable pub resume_task : Setup → Task → Then
@@ -35,7 +35,7 @@ resume_task setup (Task.DisableQuad2 status2) = read2_then setup Phase.DisableVe
 resume_task setup (Task.DisableQuad1 status1) = read1_then setup Phase.DisableVerify1
 resume_task setup (Task.Unprotect1 before status2) = unprotect_second setup before status2
 resume_task setup (Task.Unprotect2 before status2) = read1_then setup (Phase.UnprotectAfter before)
-resume_task setup (Task.PageProgram offset len done) = verify_then setup offset len done
+resume_task setup (Task.PageProgram s) = verify_then setup s.offset s.len s.done
 resume_task setup (Task.Erase kind address end) = erase_from setup (after_unit setup.device kind address) end
 
 -- wait_ready: `self.read_status1()?`
@@ -51,7 +51,7 @@ unfoldable pub wait_then : Setup → Task → Wait → Then
 wait_then setup task Wait.Look = look_then setup task 0
 wait_then setup task (Wait.Pause us waited) = pause_then setup task us waited
 wait_then setup task Wait.Ready = resume_task setup task
-wait_then setup task Wait.Timeout = Then.Fail FlashError.Timeout
+wait_then setup task Wait.Timeout = Err FlashError.Timeout
 
 -- wait_ready: its first step, and the one behind a look
 abbrev pub sent_then : Setup → Task → Then

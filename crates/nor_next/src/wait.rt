@@ -1,4 +1,6 @@
 // A write to the part: its command behind write_enable, and wait_ready.
+// nand_next cuts its wait alike, over other phases: a trait of the five steps that differ is longer.
+// A task and what it has waited stay two parameters: each function here would take a struct of the two apart at once.
 ghost use Rattle.std.specs.Prelude.{◌≡◌};
 ghost use Rattle.nor_next.specs.Wait.{latch_then, latched_then, resume_task, look_then, pause_then, wait_then, sent_then, looked_then, writing_then};
 
@@ -20,7 +22,7 @@ fn latch(setup: Setup, task: Task) -> Then
     go::read1(
         setup,
         Phase::Writing {
-            task: task,
+            task,
             at: WriteStep::Latch,
             waited: 0,
         },
@@ -28,45 +30,47 @@ fn latch(setup: Setup, task: Task) -> Then
 }
 
 // write_enable has been sent: the command goes out where the latch is set.
+#[tactic(auto, unfolding(crate::specs::Wait::latched_then))]
 fn latched(setup: Setup, task: Task, status1: u8) -> Then
     ensures { result ≡ latched_then setup task status1 }
 {
-    if status::write_enabled(status1) {
+    if status::any(status::WRITE_ENABLE_LATCH, status1) {
         return go::go(
             setup,
             transfer::task_transfer(setup, task),
             Phase::Writing {
-                task: task,
+                task,
                 at: WriteStep::Command,
                 waited: 0,
             },
         );
     }
-    Then::Fail(FlashError::WriteEnableFailed)
+    Err(FlashError::WriteEnableFailed)
 }
 
 // The wait of a task is over.
+#[tactic(auto, unfolding(crate::specs::Wait::resume_task))]
 fn resume(setup: Setup, task: Task) -> Then
     ensures { result ≡ resume_task setup task }
 {
     match task {
-        Task::EnableQuad2(_) => return go::read2(setup, Phase::EnableVerify2),
-        Task::EnableQuad1(_) => return go::read1(setup, Phase::EnableVerify1),
-        Task::DisableQuad2(_) => return go::read2(setup, Phase::DisableVerify2),
-        Task::DisableQuad1(_) => return go::read1(setup, Phase::DisableVerify1),
+        Task::EnableQuad2(_) => go::read2(setup, Phase::EnableVerify2),
+        Task::EnableQuad1(_) => go::read1(setup, Phase::EnableVerify1),
+        Task::DisableQuad2(_) => go::read2(setup, Phase::DisableVerify2),
+        Task::DisableQuad1(_) => go::read1(setup, Phase::DisableVerify1),
         Task::Unprotect1 { before, status2 } => {
-            return protection::unprotect_second(setup, before, status2);
+            protection::unprotect_second(setup, before, status2)
         }
         Task::Unprotect2 { before, status2: _ } => {
-            return go::read1(setup, Phase::UnprotectAfter(before));
+            go::read1(setup, Phase::UnprotectAfter(before))
         }
-        Task::PageProgram { offset, len, done } => return write::verify(setup, offset, len, done),
+        Task::PageProgram(span) => write::verify(setup, span),
         Task::Erase { kind, address, end } => {
-            return erase::erase_from(
+            erase::erase_from(
                 setup,
                 transfer::after_unit(setup.device, kind, address),
                 end,
-            );
+            )
         }
     }
 }
@@ -77,9 +81,9 @@ fn look(setup: Setup, task: Task, waited: u32) -> Then
     go::read1(
         setup,
         Phase::Writing {
-            task: task,
+            task,
             at: WriteStep::Look,
-            waited: waited,
+            waited,
         },
     )
 }
@@ -91,21 +95,22 @@ fn pause(setup: Setup, task: Task, us: u32, waited: u32) -> Then
         setup,
         Transfer::Pause(us),
         Phase::Writing {
-            task: task,
+            task,
             at: WriteStep::Pause,
-            waited: waited,
+            waited,
         },
     )
 }
 
+#[tactic(auto, unfolding(crate::specs::Wait::wait_then))]
 fn waited_then(setup: Setup, task: Task, step: Wait) -> Then
     ensures { result ≡ wait_then setup task step }
 {
     match step {
-        Wait::Look => return look(setup, task, 0),
-        Wait::Pause { us, waited } => return pause(setup, task, us, waited),
-        Wait::Ready => return resume(setup, task),
-        Wait::Timeout => return Then::Fail(FlashError::Timeout),
+        Wait::Look => look(setup, task, 0),
+        Wait::Pause { us, waited } => pause(setup, task, us, waited),
+        Wait::Ready => resume(setup, task),
+        Wait::Timeout => Err(FlashError::Timeout),
     }
 }
 
@@ -130,20 +135,21 @@ fn looked(setup: Setup, task: Task, waited: u32, status1: u8) -> Then
         wait::after_look(
             opcode::timings(transfer::task_operation(task)),
             waited,
-            status::busy(status1),
+            status::any(status::BUSY, status1),
         ),
     )
 }
 
 // What follows each step of a task. The status is looked at only behind a look.
+#[tactic(auto, unfolding(crate::specs::Wait::writing_then))]
 pub fn writing(setup: Setup, task: Task, at: WriteStep, waited: u32, status1: u8) -> Then
     ensures { result ≡ writing_then setup task at waited status1 }
 {
     match at {
-        WriteStep::Enable => return latch(setup, task),
-        WriteStep::Latch => return latched(setup, task, status1),
-        WriteStep::Command => return sent(setup, task),
-        WriteStep::Look => return looked(setup, task, waited, status1),
-        WriteStep::Pause => return look(setup, task, waited),
+        WriteStep::Enable => latch(setup, task),
+        WriteStep::Latch => latched(setup, task, status1),
+        WriteStep::Command => sent(setup, task),
+        WriteStep::Look => looked(setup, task, waited, status1),
+        WriteStep::Pause => look(setup, task, waited),
     }
 }

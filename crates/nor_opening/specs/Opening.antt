@@ -1,33 +1,37 @@
 -- How each call begins (nor/driver.rs), with a buffer and data of these lengths.
-use Rattle.std.specs.Prelude.{ℕ}
-use Rattle.spi_flash.specs.declared.loan.Takes.{Takes}
-use Rattle.spi_nor.specs.Config.{single_config}
+use Rattle.std.specs.Prelude.{ℕ, Option, Some, None}
+use Rattle.machine.specs.Then.{plain, filling, sending}
+use Rattle.machine.specs.declared.then.Opening.{Opening}
+use Rattle.spi_nor.specs.Config.{w25q128jv, single_config, jedec_id}
+use Rattle.spi_nor.specs.declared.config.NorDeviceInfo.{NorDeviceInfo}
+use Rattle.spi_nor.specs.declared.config.SpiNorConfig.{SpiNorConfig}
 use Rattle.nor_answers.specs.declared.answer.Answer.{Answer}
 use Rattle.nor_phases.specs.declared.call.Call.{Call}
 use Rattle.nor_phases.specs.declared.phase.EraseKind.{EraseKind}
 use Rattle.nor_phases.specs.declared.phase.Phase.{Phase}
 use Rattle.nor_phases.specs.declared.setup.Setup.{Setup}
 use Rattle.nor_steps.specs.Go.{read1_then, read2_then, read_id_then, read_unique_id_then}
-use Rattle.nor_steps.specs.declared.then.Then.{Then}
 use Rattle.nor_pages.specs.Read.{read_then}
 use Rattle.nor_pages.specs.Write.{write_then}
 use Rattle.nor_pages.specs.Erase.{erase_then, erase_one}
-use Rattle.nor_opening.specs.declared.opening.Opening.{Opening}
 
--- a call that takes nothing, the caller's buffer, the caller's data
-abbrev pub plain : Then → Opening
-plain then = Opening.Uses Takes.Nothing then
+-- the device of a setting, where one is given
+abbrev pub given_at : Option NorDeviceInfo → NorDeviceInfo
+given_at None = w25q128jv
+given_at (Some device) = device
 
-abbrev pub filling : ℕ → Then → Opening
-filling n then = Opening.Uses (Takes.Buffer n) then
+-- with_config: `config.device.unwrap_or(NorDeviceInfo::W25Q128JV)`
+abbrev pub given_device : SpiNorConfig → NorDeviceInfo
+given_device config = given_at config.device
 
-abbrev pub sending : ℕ → Then → Opening
-sending n then = Opening.Uses (Takes.Data n) then
+-- with_config: the struct before the id is known
+abbrev pub fresh_setup : SpiNorConfig → Setup
+fresh_setup config = record { config = config; device = given_device config; id = jedec_id 0 0 0 }
 
 -- what the call is to a driver at rest that holds this: the first transfer of each of the Rust's calls, or the Rust's own refusal
-unfoldable pub opening_of : Setup → Call → ℕ → ℕ → Opening
-opening_of setup Call.New b d = Opening.Constructs single_config
-opening_of setup (Call.WithConfig config) b d = Opening.Constructs config
+unfoldable pub opening_of : Setup → Call → ℕ → ℕ → Opening Setup Phase Answer
+opening_of setup Call.New b d = Opening.Constructs (fresh_setup single_config)
+opening_of setup (Call.WithConfig config) b d = Opening.Constructs (fresh_setup config)
 opening_of setup Call.Config b d = Opening.Tells (Answer.Config setup.config)
 opening_of setup Call.Device b d = Opening.Tells (Answer.Device setup.device)
 opening_of setup Call.Id b d = Opening.Tells (Answer.Id setup.id)

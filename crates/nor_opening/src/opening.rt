@@ -1,10 +1,6 @@
 // How each call begins.
 ghost use Rattle.std.specs.Prelude.{◌≡◌};
-ghost use Rattle.nor_steps.specs.Go.{read1_then, read2_then, read_id_then, read_unique_id_then};
-ghost use Rattle.nor_pages.specs.Read.{read_then};
-ghost use Rattle.nor_pages.specs.Write.{write_then};
-ghost use Rattle.nor_pages.specs.Erase.{erase_then, erase_one};
-ghost use Rattle.nor_opening.specs.Opening.{plain, filling, sending, opening_of};
+ghost use Rattle.nor_opening.specs.Opening.{given_device, fresh_setup, opening_of};
 
 use nor_answers::answer::Answer;
 use nor_pages::{erase, read, write};
@@ -12,152 +8,64 @@ use nor_phases::call::Call;
 use nor_phases::phase::{EraseKind, Phase};
 use nor_phases::setup::Setup;
 use nor_steps::go;
-use nor_steps::then::Then;
-use spi_flash::loan::Takes;
-use spi_nor::config::SpiNorConfig;
+use nor_steps::then::Opening;
+use spi_nor::config::{NorDeviceInfo, NorJedecId, SpiNorConfig};
 
-// What a call is to a driver at rest.
-#[derive(Clone, Copy)]
-pub enum Opening {
-    Constructs(SpiNorConfig),
-    // It only tells what the driver holds.
-    Tells(Answer),
-    Releases,
-    // Its first transfer or the Rust's own refusal, and what it takes.
-    Uses { takes: Takes, then: Then },
+// The device before the id is known.
+fn given_device(config: SpiNorConfig) -> NorDeviceInfo
+    ensures { result ≡ given_device config }
+{
+    config.device.unwrap_or(NorDeviceInfo::W25Q128JV)
 }
 
-// ---- what the driver holds
-
-fn config(setup: Setup) -> Opening
-    ensures { result ≡ Opening.Tells (Answer.Config setup.config) }
+// What the driver holds before the id is known.
+pub fn fresh(config: SpiNorConfig) -> Setup
+    ensures { result ≡ fresh_setup config }
 {
-    let config = setup.config;
-    Opening::Tells(Answer::Config(config))
-}
-
-fn device(setup: Setup) -> Opening
-    ensures { result ≡ Opening.Tells (Answer.Device setup.device) }
-{
-    let device = setup.device;
-    Opening::Tells(Answer::Device(device))
-}
-
-fn id(setup: Setup) -> Opening
-    ensures { result ≡ Opening.Tells (Answer.Id setup.id) }
-{
-    let id = setup.id;
-    Opening::Tells(Answer::Id(id))
-}
-
-// ---- what a call takes
-
-fn plain(then: Then) -> Opening
-    ensures { result ≡ plain «then» }
-{
-    Opening::Uses {
-        takes: Takes::Nothing,
-        then: then,
+    Setup {
+        config,
+        device: given_device(config),
+        id: NorJedecId {
+            manufacturer: 0,
+            memory_type: 0,
+            capacity: 0,
+        },
     }
 }
 
-fn filling(len: usize, then: Then) -> Opening
-    ensures { result ≡ filling len «then» }
-{
-    Opening::Uses {
-        takes: Takes::Buffer(len),
-        then: then,
-    }
-}
-
-fn sending(len: usize, then: Then) -> Opening
-    ensures { result ≡ sending len «then» }
-{
-    Opening::Uses {
-        takes: Takes::Data(len),
-        then: then,
-    }
-}
-
-// ---- registers and ids
-
-fn reads1(setup: Setup, phase: Phase) -> Opening
-    ensures { result ≡ plain (read1_then setup phase) }
-{
-    plain(go::read1(setup, phase))
-}
-
-fn reads2(setup: Setup, phase: Phase) -> Opening
-    ensures { result ≡ plain (read2_then setup phase) }
-{
-    plain(go::read2(setup, phase))
-}
-
-fn jedec_id(setup: Setup) -> Opening
-    ensures { result ≡ plain (read_id_then setup Phase.JedecId) }
-{
-    plain(go::read_id(setup, Phase::JedecId))
-}
-
-fn unique_id(setup: Setup) -> Opening
-    ensures { result ≡ plain (read_unique_id_then setup Phase.UniqueId) }
-{
-    plain(go::read_unique_id(setup, Phase::UniqueId))
-}
-
-// ---- bytes
-
-fn read(setup: Setup, offset: u32, len: usize) -> Opening
-    ensures { result ≡ filling len (read_then setup offset len) }
-{
-    filling(len, read::read_then(setup, offset, len))
-}
-
-fn write(setup: Setup, offset: u32, len: usize) -> Opening
-    ensures { result ≡ sending len (write_then setup offset len) }
-{
-    sending(len, write::write_then(setup, offset, len))
-}
-
-// ---- erases
-
-fn erase(setup: Setup, from: u32, to: u32) -> Opening
-    ensures { result ≡ plain (erase_then setup from to) }
-{
-    plain(erase::erase_then(setup, from, to))
-}
-
-fn erases_one(setup: Setup, kind: EraseKind, offset: u32) -> Opening
-    ensures { result ≡ plain (erase_one setup kind offset) }
-{
-    plain(erase::erase_one(setup, kind, offset))
-}
-
-// ---- each call, with a buffer and data of these lengths
-
+// Each call, with a buffer and data of these lengths.
+#[tactic(auto, unfolding(crate::specs::Opening::opening_of))]
 pub fn opening_of(setup: Setup, call: Call, buffer_len: usize, data_len: usize) -> Opening
     ensures { result ≡ opening_of setup call buffer_len data_len }
 {
     match call {
-        Call::New => return Opening::Constructs(SpiNorConfig::single()),
-        Call::WithConfig(c) => return Opening::Constructs(c),
-        Call::Config => return config(setup),
-        Call::Device => return device(setup),
-        Call::Id => return id(setup),
-        Call::Free => return Opening::Releases,
-        Call::ReadStatus1 => return reads1(setup, Phase::Status1),
-        Call::ReadStatus2 => return reads2(setup, Phase::Status2),
-        Call::IsBusy => return reads1(setup, Phase::Busy),
-        Call::JedecId => return jedec_id(setup),
-        Call::UniqueId => return unique_id(setup),
-        Call::QuadEnabled => return reads2(setup, Phase::QuadEnabled2),
-        Call::EnableQuad => return reads2(setup, Phase::EnableCheck2),
-        Call::DisableQuad => return reads2(setup, Phase::DisableRead2),
-        Call::Read { offset } => return read(setup, offset, buffer_len),
-        Call::Write { offset } => return write(setup, offset, data_len),
-        Call::Unprotect => return reads1(setup, Phase::UnprotectRead1),
-        Call::Erase { from, to } => return erase(setup, from, to),
-        Call::EraseSector { offset } => return erases_one(setup, EraseKind::Sector, offset),
-        Call::EraseBlock { offset } => return erases_one(setup, EraseKind::Block, offset),
+        Call::New => Opening::Constructs(fresh(SpiNorConfig::single())),
+        Call::WithConfig(config) => Opening::Constructs(fresh(config)),
+        Call::Config => Opening::Tells(Answer::Config(setup.config)),
+        Call::Device => Opening::Tells(Answer::Device(setup.device)),
+        Call::Id => Opening::Tells(Answer::Id(setup.id)),
+        Call::Free => Opening::Releases,
+        Call::ReadStatus1 => Opening::plain(go::read1(setup, Phase::Status1)),
+        Call::ReadStatus2 => Opening::plain(go::read2(setup, Phase::Status2)),
+        Call::IsBusy => Opening::plain(go::read1(setup, Phase::Busy)),
+        Call::JedecId => Opening::plain(go::read_id(setup, Phase::JedecId)),
+        Call::UniqueId => Opening::plain(go::read_unique_id(setup, Phase::UniqueId)),
+        Call::QuadEnabled => Opening::plain(go::read2(setup, Phase::QuadEnabled2)),
+        Call::EnableQuad => Opening::plain(go::read2(setup, Phase::EnableCheck2)),
+        Call::DisableQuad => Opening::plain(go::read2(setup, Phase::DisableRead2)),
+        Call::Read { offset } => {
+            Opening::filling(buffer_len, read::read_then(setup, offset, buffer_len))
+        }
+        Call::Write { offset } => {
+            Opening::sending(data_len, write::write_then(setup, offset, data_len))
+        }
+        Call::Unprotect => Opening::plain(go::read1(setup, Phase::UnprotectRead1)),
+        Call::Erase { from, to } => Opening::plain(erase::erase_then(setup, from, to)),
+        Call::EraseSector { offset } => {
+            Opening::plain(erase::erase_one(setup, EraseKind::Sector, offset))
+        }
+        Call::EraseBlock { offset } => {
+            Opening::plain(erase::erase_one(setup, EraseKind::Block, offset))
+        }
     }
 }

@@ -9,30 +9,25 @@ use nor_phases::transfer;
 use nor_steps::go;
 use nor_steps::then::Then;
 use spi_flash::error::FlashError;
+use spi_flash::range;
 
 // erase_sector and erase_block, and their part in `erase`.
+#[tactic(auto, unfolding(crate::specs::Erase::erase_unit, nor_phases::specs::Transfer::multiple_of))]
 pub fn erase_unit(setup: Setup, kind: EraseKind, address: u32, end: u32) -> Then
     ensures { result ≡ erase_unit setup kind address end }
 {
-    let device = setup.device;
-    let size = transfer::unit_size(device, kind);
-    if transfer::in_range(device.capacity, address, size) {
-        if transfer::multiple_of(address as usize, size) {
-            return go::enabled(
-                setup,
-                Task::Erase {
-                    kind: kind,
-                    address: address,
-                    end: end,
-                },
-            );
-        }
-        return Then::Fail(FlashError::NotAligned);
+    let size = transfer::unit_size(setup.device, kind);
+    if !range::range_in_bounds(setup.device.capacity, address as usize, size) {
+        return Err(FlashError::OutOfBounds);
     }
-    Then::Fail(FlashError::OutOfBounds)
+    if (address as usize).is_multiple_of(size) {
+        return go::enabled(setup, Task::Erase { kind, address, end });
+    }
+    Err(FlashError::NotAligned)
 }
 
 // The next step of `erase`, or its end.
+#[tactic(auto, unfolding(crate::specs::Erase::erase_from))]
 pub fn erase_from(setup: Setup, address: u32, end_at: u32) -> Then
     ensures { result ≡ erase_from setup address end_at }
 {
@@ -48,24 +43,18 @@ pub fn erase_from(setup: Setup, address: u32, end_at: u32) -> Then
 }
 
 // `erase` from its beginning: the range before the alignment.
+#[tactic(auto, unfolding(crate::specs::Erase::erase_then, nor_phases::specs::Transfer::multiple_of))]
 pub fn erase_then(setup: Setup, from: u32, to: u32) -> Then
     ensures { result ≡ erase_then setup from to }
 {
-    let device = setup.device;
-    let sector = device.sector_size;
-    if from > to {
-        return Then::Fail(FlashError::OutOfBounds);
+    let sector = setup.device.sector_size;
+    if from > to || to as usize > setup.device.capacity {
+        return Err(FlashError::OutOfBounds);
     }
-    if to as usize > device.capacity {
-        return Then::Fail(FlashError::OutOfBounds);
+    if (from as usize).is_multiple_of(sector) && (to as usize).is_multiple_of(sector) {
+        return erase_from(setup, from, to);
     }
-    if transfer::multiple_of(from as usize, sector) {
-        if transfer::multiple_of(to as usize, sector) {
-            return erase_from(setup, from, to);
-        }
-        return Then::Fail(FlashError::NotAligned);
-    }
-    Then::Fail(FlashError::NotAligned)
+    Err(FlashError::NotAligned)
 }
 
 // A sector or block for itself.

@@ -11,44 +11,50 @@ use nor_steps::go;
 use nor_steps::then::Then;
 use qspi::transfer::Sink;
 use spi_flash::error::FlashError;
+use spi_flash::range;
+use spi_flash::range::Span;
 
 // The next piece of `read`, or its end.
-pub fn read_from(setup: Setup, offset: u32, len: usize, done: usize) -> Then
-    ensures { result ≡ read_from setup offset len done }
+#[tactic(auto, unfolding(crate::specs::Read::read_from))]
+pub fn read_from(setup: Setup, span: Span<u32>) -> Then
+    ensures { result ≡ read_from setup span.offset span.len span.done }
 {
-    if done < len {
+    if span.done < span.len {
         return go::go(
             setup,
             transfer::read_transfer(
                 setup,
-                transfer::place(offset, done),
-                transfer::chunk(len, done),
-                Sink::Buffer(done),
+                transfer::place(span),
+                transfer::chunk(span),
+                Sink::Buffer(span.done),
             ),
-            Phase::Reading {
-                offset: offset,
-                len: len,
-                done: done,
-            },
+            Phase::Reading(span),
         );
     }
     go::end(setup, Answer::Done)
 }
 
 // `read` from its beginning: the range is tested first.
+#[tactic(auto, unfolding(crate::specs::Read::read_then))]
 pub fn read_then(setup: Setup, offset: u32, len: usize) -> Then
     ensures { result ≡ read_then setup offset len }
 {
-    let device = setup.device;
-    if transfer::in_range(device.capacity, offset, len) {
-        return read_from(setup, offset, len, 0);
+    if range::range_in_bounds(setup.device.capacity, offset as usize, len) {
+        return read_from(
+            setup,
+            Span {
+                offset,
+                len,
+                done: 0,
+            },
+        );
     }
-    Then::Fail(FlashError::OutOfBounds)
+    Err(FlashError::OutOfBounds)
 }
 
 // `done += length`
-pub fn piece_read(setup: Setup, offset: u32, len: usize, done: usize) -> Then
-    ensures { result ≡ read_from setup offset len (done + chunk_of len done) }
+pub fn piece_read(setup: Setup, span: Span<u32>) -> Then
+    ensures { result ≡ read_from setup span.offset span.len (span.done + chunk_of span.len span.done) }
 {
-    read_from(setup, offset, len, transfer::past_chunk(len, done))
+    read_from(setup, transfer::past_chunk(span))
 }

@@ -10,73 +10,66 @@ use nor_steps::go;
 use nor_steps::then::Then;
 use qspi::transfer::Sink;
 use spi_flash::error::FlashError;
+use spi_flash::range;
+use spi_flash::range::Span;
 
 // The next page of `write`, or its end.
-pub fn program_from(setup: Setup, offset: u32, len: usize, done: usize) -> Then
-    ensures { result ≡ program_from setup offset len done }
+#[tactic(auto, unfolding(crate::specs::Write::program_from))]
+pub fn program_from(setup: Setup, span: Span<u32>) -> Then
+    ensures { result ≡ program_from setup span.offset span.len span.done }
 {
-    if done < len {
-        return go::enabled(
-            setup,
-            Task::PageProgram {
-                offset: offset,
-                len: len,
-                done: done,
-            },
-        );
+    if span.done < span.len {
+        return go::enabled(setup, Task::PageProgram(span));
     }
     go::end(setup, Answer::Done)
 }
 
 // The read-back of a page, compared with the caller's data.
-pub fn verify(setup: Setup, offset: u32, len: usize, done: usize) -> Then
-    ensures { result ≡ verify_then setup offset len done }
+#[tactic(auto, unfolding(crate::specs::Write::verify_then))]
+pub fn verify(setup: Setup, span: Span<u32>) -> Then
+    ensures { result ≡ verify_then setup span.offset span.len span.done }
 {
-    let device = setup.device;
-    let n = transfer::page_chunk(device, len, done);
-    let at = transfer::place(offset, done);
-    if transfer::in_range(device.capacity, at, n) {
+    let n = transfer::page_chunk(setup.device, span);
+    let at = transfer::place(span);
+    if range::range_in_bounds(setup.device.capacity, at as usize, n) {
         return go::go(
             setup,
-            transfer::read_transfer(setup, at, n, Sink::Compare(done)),
-            Phase::Verifying {
-                offset: offset,
-                len: len,
-                done: done,
-            },
+            transfer::read_transfer(setup, at, n, Sink::Compare(span.done)),
+            Phase::Verifying(span),
         );
     }
-    Then::Fail(FlashError::OutOfBounds)
+    Err(FlashError::OutOfBounds)
 }
 
-pub fn verified(setup: Setup, offset: u32, len: usize, done: usize, same: u64) -> Then
-    ensures { result ≡ verified_then setup offset len done same }
+// The comparison's number, 0 where the bytes differ: a transfer's value is a number, and only here is it a yes or no.
+#[tactic(auto, unfolding(crate::specs::Write::verified_then))]
+pub fn verified(setup: Setup, span: Span<u32>, same: u64) -> Then
+    ensures { result ≡ verified_then setup span.offset span.len span.done same }
 {
     if same == 0 {
-        return Then::Fail(FlashError::VerifyFailed);
+        return Err(FlashError::VerifyFailed);
     }
-    program_from(
-        setup,
-        offset,
-        len,
-        transfer::past_page(setup.device, len, done),
-    )
+    program_from(setup, transfer::past_page(setup.device, span))
 }
 
 // `write` from its beginning: the range before the alignment.
+#[tactic(auto, unfolding(crate::specs::Write::write_then, nor_phases::specs::Transfer::multiple_of))]
 pub fn write_then(setup: Setup, offset: u32, len: usize) -> Then
     ensures { result ≡ write_then setup offset len }
 {
-    let device = setup.device;
-    let page = device.page_size;
-    if transfer::in_range(device.capacity, offset, len) {
-        if transfer::multiple_of(offset as usize, page) {
-            if transfer::multiple_of(len, page) {
-                return program_from(setup, offset, len, 0);
-            }
-            return Then::Fail(FlashError::NotAligned);
-        }
-        return Then::Fail(FlashError::NotAligned);
+    let page = setup.device.page_size;
+    if !range::range_in_bounds(setup.device.capacity, offset as usize, len) {
+        return Err(FlashError::OutOfBounds);
     }
-    Then::Fail(FlashError::OutOfBounds)
+    if (offset as usize).is_multiple_of(page) && len.is_multiple_of(page) {
+        return program_from(
+            setup,
+            Span {
+                offset,
+                len,
+                done: 0,
+            },
+        );
+    }
+    Err(FlashError::NotAligned)
 }

@@ -1,25 +1,21 @@
 -- The transfers of the calls (nor/driver.rs), at the configured bus width.
-use Rattle.std.specs.Prelude.{ℕ, ◌+◌, ◌-◌, ◌%◌, ◌^◌, Bool, false, ◌==◌, nat_le, nat_lt}
+use Rattle.spi_nor.specs.declared.config.NorQuadConfig.{NorQuadConfig}
+use Rattle.std.specs.Prelude.{ℕ, ◌+◌, ◌-◌, ◌%◌, ◌^◌, Bool, ◌==◌, nat_le, Option, Some, None}
 use Rattle.qspi.specs.Transfer.{command_only}
 use Rattle.qspi.specs.Choice.{pick}
-use Rattle.qspi.specs.declared.command.Command.{Command}
 use Rattle.qspi.specs.declared.transfer.Payload.{Payload}
 use Rattle.qspi.specs.declared.transfer.Sink.{Sink}
 use Rattle.qspi.specs.declared.transfer.Body.{Body}
 use Rattle.qspi.specs.declared.transfer.Transfer.{Transfer}
+use Rattle.spi_flash.specs.Range.{piece_of}
 use Rattle.spi_nor.specs.Opcode.{MAX-BULK-LEN}
 use Rattle.spi_nor.specs.Status.{with_quad1_of, with_quad2_of, without_quad1_of, without_quad2_of, unprotected1_of, unprotected2_of}
 use Rattle.spi_nor.specs.Command.{write_status1_command, write_status2_command, read_command, page_program_command, sector_erase_command, block_erase_command, quad_read_command, quad_page_program_command}
 use Rattle.spi_nor.specs.declared.config.NorDeviceInfo.{NorDeviceInfo}
-use Rattle.spi_nor.specs.declared.config.QuadSetting.{QuadSetting}
 use Rattle.nor_phases.specs.declared.phase.EraseKind.{EraseKind}
 use Rattle.nor_phases.specs.declared.phase.Task.{Task}
 use Rattle.nor_phases.specs.declared.setup.Setup.{Setup}
 use Rattle.spi_nor.specs.declared.opcode.Operation.{Operation}
-
--- a register or an id: its bytes are a number
-abbrev pub number_transfer : Command → ℕ → Transfer
-number_transfer command n = Transfer.Framed command (Body.Read n Sink.Number)
 
 -- the Rust's `a + b` of u32, and `n as u32`; inside the bounds neither wraps
 abbrev pub u32_add : ℕ → ℕ → ℕ
@@ -34,24 +30,24 @@ place_of offset done = u32_add offset (as_u32 done)
 
 -- read: (bytes.len() - done).min(opcode::MAX_BULK_LEN)
 unfoldable pub chunk_of : ℕ → ℕ → ℕ
-chunk_of len done = pick (nat_lt done len) (pick (nat_le (len - done) MAX-BULK-LEN) (len - done) MAX-BULK-LEN) 0
+chunk_of len done = piece_of MAX-BULK-LEN len done
 
 -- write: the length of bytes.chunks(page_size)'s next chunk
 unfoldable pub page_of : NorDeviceInfo → ℕ → ℕ → ℕ
-page_of device len done = pick (nat_lt done len) (pick (nat_le (len - done) device.page_size) (len - done) device.page_size) 0
+page_of device len done = piece_of device.page_size len done
 
 -- read: single-line or quad
-abbrev pub read_at : QuadSetting → ℕ → ℕ → Sink → Transfer
-read_at QuadSetting.Single offset n sink = Transfer.Framed (read_command offset) (Body.Read n sink)
-read_at (QuadSetting.Quad q) offset n sink = Transfer.Framed (quad_read_command q offset) (Body.QuadRead q.tclqv_ns q.dummy_margin n sink)
+abbrev pub read_at : Option NorQuadConfig → ℕ → ℕ → Sink → Transfer
+read_at None offset n sink = Transfer.Framed (read_command offset) (Body.Read n sink)
+read_at (Some q) offset n sink = Transfer.Framed (quad_read_command q offset) (Body.QuadRead q.tclqv_ns q.dummy_margin n sink)
 
 unfoldable pub read_transfer : Setup → ℕ → ℕ → Sink → Transfer
 read_transfer setup offset n sink = read_at setup.config.quad offset n sink
 
 -- page_program: single-line or quad
-abbrev pub program_at : QuadSetting → ℕ → ℕ → ℕ → Transfer
-program_at QuadSetting.Single offset from n = Transfer.Framed (page_program_command offset) (Body.Write (Payload.Data from n))
-program_at (QuadSetting.Quad q) offset from n = Transfer.Framed (quad_page_program_command q offset) (Body.QuadWrite (Payload.Data from n))
+abbrev pub program_at : Option NorQuadConfig → ℕ → ℕ → ℕ → Transfer
+program_at None offset from n = Transfer.Framed (page_program_command offset) (Body.Write (Payload.Data from n))
+program_at (Some q) offset from n = Transfer.Framed (quad_page_program_command q offset) (Body.QuadWrite (Payload.Data from n))
 
 unfoldable pub program_transfer : Setup → ℕ → ℕ → ℕ → Transfer
 program_transfer setup offset from n = program_at setup.config.quad offset from n
@@ -69,8 +65,8 @@ task_transfer setup (Task.DisableQuad2 status2) = command_only (write_status2_co
 task_transfer setup (Task.DisableQuad1 status1) = command_only (write_status1_command (without_quad1_of status1))
 task_transfer setup (Task.Unprotect1 before status2) = command_only (write_status1_command (unprotected1_of before))
 task_transfer setup (Task.Unprotect2 before status2) = command_only (write_status2_command (unprotected2_of status2))
-task_transfer setup (Task.PageProgram offset len done) =
-    program_transfer setup (place_of offset done) done (page_of setup.device len done)
+task_transfer setup (Task.PageProgram s) =
+    program_transfer setup (place_of s.offset s.done) s.done (page_of setup.device s.len s.done)
 task_transfer setup (Task.Erase kind address end) = erase_transfer kind address
 
 abbrev pub erase_operation : EraseKind → Operation
@@ -85,12 +81,8 @@ task_operation (Task.DisableQuad2 status2) = Operation.StatusWrite
 task_operation (Task.DisableQuad1 status1) = Operation.StatusWrite
 task_operation (Task.Unprotect1 before status2) = Operation.StatusWrite
 task_operation (Task.Unprotect2 before status2) = Operation.StatusWrite
-task_operation (Task.PageProgram offset len done) = Operation.PageProgram
+task_operation (Task.PageProgram s) = Operation.PageProgram
 task_operation (Task.Erase kind address end) = erase_operation kind
-
--- range_in_bounds
-unfoldable pub in_range : ℕ → ℕ → ℕ → Bool
-in_range capacity offset n = pick (nat_le offset capacity) (nat_le n (capacity - offset)) false
 
 -- is_multiple_of
 unfoldable pub multiple_of : ℕ → ℕ → Bool

@@ -1,4 +1,5 @@
 // Where a call stands: which of its transfers is out.
+use spi_flash::range::Span;
 
 #[derive(Clone, Copy)]
 pub enum EraseKind {
@@ -24,12 +25,8 @@ pub enum Task {
         before: u8,
         status2: u8,
     },
-    // write: `done` bytes of `len` stand behind `offset`.
-    PageProgram {
-        offset: u32,
-        len: usize,
-        done: usize,
-    },
+    // write, page by page.
+    PageProgram(Span<u32>),
     // erase, and both single erases.
     Erase {
         kind: EraseKind,
@@ -79,16 +76,8 @@ pub enum Phase {
     UnprotectRead2(u8),
     UnprotectAfter(u8),
     // read, and the read-back of page_program
-    Reading {
-        offset: u32,
-        len: usize,
-        done: usize,
-    },
-    Verifying {
-        offset: u32,
-        len: usize,
-        done: usize,
-    },
+    Reading(Span<u32>),
+    Verifying(Span<u32>),
     // write_enable, the command, and wait_ready
     Writing {
         task: Task,

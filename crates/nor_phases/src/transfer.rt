@@ -1,118 +1,93 @@
 // The transfers of the calls, at the configured bus width.
 ghost use Rattle.std.specs.Prelude.{◌≡◌, ◌+◌};
-ghost use Rattle.nor_phases.specs.Transfer.{number_transfer, place_of, chunk_of, page_of, read_transfer, program_transfer, erase_transfer, task_transfer, task_operation, in_range, multiple_of, unit_size, step_kind, after_unit};
+ghost use Rattle.qspi.specs.Transfer.{command_only};
+ghost use Rattle.spi_flash.specs.Range.{span};
+ghost use Rattle.spi_nor.specs.Command.{write_status1_command, write_status2_command};
+ghost use Rattle.nor_phases.specs.Transfer.{place_of, chunk_of, page_of, read_transfer, program_transfer, erase_transfer, task_transfer, task_operation, unit_size, step_kind, after_unit};
 
 use crate::phase::{EraseKind, Task};
 use crate::setup::Setup;
-use qspi::command::Command;
 use qspi::transfer::{Body, Payload, Sink, Transfer};
-use spi_nor::config::{NorDeviceInfo, QuadSetting};
+use spi_flash::range;
+use spi_flash::range::Span;
+use spi_nor::config::NorDeviceInfo;
 use spi_nor::opcode::Operation;
 use spi_nor::{command, opcode, status};
 
-// A read whose bytes are a number: registers and ids.
-pub fn number_transfer(command: Command, len: usize) -> Transfer
-    ensures { result ≡ number_transfer command len }
-{
-    Transfer::Framed {
-        command: command,
-        body: Body::Read {
-            len: len,
-            sink: Sink::Number,
-        },
-    }
-}
-
 // `offset + done as u32`
-pub fn place(offset: u32, done: usize) -> u32
-    ensures { result ≡ place_of offset done }
+#[tactic(auto, unfolding(crate::specs::Transfer::place_of))]
+pub fn place(span: Span<u32>) -> u32
+    ensures { result ≡ place_of span.offset span.done }
 {
-    std::num::wrapping_add_u32(offset, (done % 4294967296) as u32)
+    std::num::wrapping_add_u32(span.offset, (span.done % 4294967296) as u32)
 }
 
 // The bytes of the next piece of `read`.
-pub fn chunk(len: usize, done: usize) -> usize
-    ensures { result ≡ chunk_of len done }
+#[tactic(auto, unfolding(crate::specs::Transfer::chunk_of))]
+pub fn chunk(span: Span<u32>) -> usize
+    ensures { result ≡ chunk_of span.len span.done }
 {
-    if done < len {
-        if len - done <= opcode::MAX_BULK_LEN {
-            len - done
-        } else {
-            opcode::MAX_BULK_LEN
-        }
-    } else {
-        0
-    }
+    range::piece(opcode::MAX_BULK_LEN, span.len, span.done)
 }
 
-// What is done after that piece.
-pub fn past_chunk(len: usize, done: usize) -> usize
-    ensures { result ≡ done + chunk_of len done }
+// Where the call stands after that piece.
+#[tactic(auto, unfolding(crate::specs::Transfer::chunk_of))]
+pub fn past_chunk(s: Span<u32>) -> Span<u32>
+    ensures { result ≡ span s.offset s.len (s.done + chunk_of s.len s.done) }
 {
-    let n = chunk(len, done);
-    done + n
+    let done = range::past_piece(opcode::MAX_BULK_LEN, s.len, s.done);
+    Span { done, ..s }
 }
 
 // The bytes of the next page of `write`.
-pub fn page_chunk(device: NorDeviceInfo, len: usize, done: usize) -> usize
-    ensures { result ≡ page_of device len done }
+#[tactic(auto, unfolding(crate::specs::Transfer::page_of))]
+pub fn page_chunk(device: NorDeviceInfo, span: Span<u32>) -> usize
+    ensures { result ≡ page_of device span.len span.done }
 {
-    let page = device.page_size;
-    if done < len {
-        if len - done <= page { len - done } else { page }
-    } else {
-        0
-    }
+    range::piece(device.page_size, span.len, span.done)
 }
 
-// What is done after that page.
-pub fn past_page(device: NorDeviceInfo, len: usize, done: usize) -> usize
-    ensures { result ≡ done + page_of device len done }
+// Where the call stands after that page.
+#[tactic(auto, unfolding(crate::specs::Transfer::page_of))]
+pub fn past_page(device: NorDeviceInfo, s: Span<u32>) -> Span<u32>
+    ensures { result ≡ span s.offset s.len (s.done + page_of device s.len s.done) }
 {
-    let n = page_chunk(device, len, done);
-    done + n
+    let done = range::past_piece(device.page_size, s.len, s.done);
+    Span { done, ..s }
 }
 
+#[tactic(auto, unfolding(crate::specs::Transfer::read_transfer))]
 pub fn read_transfer(setup: Setup, offset: u32, len: usize, sink: Sink) -> Transfer
     ensures { result ≡ read_transfer setup offset len sink }
 {
-    let config = setup.config;
-    let quad = config.quad;
-    match quad {
-        QuadSetting::Single => Transfer::Framed {
+    match setup.config.quad {
+        None => Transfer::Framed {
             command: command::read_command(offset),
-            body: Body::Read {
-                len: len,
-                sink: sink,
-            },
+            body: Body::Read { len, sink },
         },
-        QuadSetting::Quad(q) => Transfer::Framed {
+        Some(q) => Transfer::Framed {
             command: command::quad_read_command(q, offset),
             body: Body::QuadRead {
                 tclqv_ns: q.tclqv_ns,
                 margin: q.dummy_margin,
-                len: len,
-                sink: sink,
+                len,
+                sink,
             },
         },
     }
 }
 
+#[tactic(auto, unfolding(crate::specs::Transfer::program_transfer))]
 fn program_transfer(setup: Setup, offset: u32, from: usize, len: usize) -> Transfer
     ensures { result ≡ program_transfer setup offset from len }
 {
-    let config = setup.config;
-    let quad = config.quad;
-    let payload = Payload::Data {
-        from: from,
-        len: len,
-    };
-    match quad {
-        QuadSetting::Single => Transfer::Framed {
+    let payload = Payload::Data { from, len };
+    match setup.config.quad {
+        None => Transfer::Framed {
             command: command::page_program_command(offset),
             body: Body::Write(payload),
         },
-        QuadSetting::Quad(q) => Transfer::Framed {
+        Some(q) => Transfer::Framed {
             command: command::quad_page_program_command(q, offset),
             body: Body::QuadWrite(payload),
         },
@@ -129,104 +104,61 @@ fn erase_transfer(kind: EraseKind, address: u32) -> Transfer
 }
 
 // What a task sends once the write-enable latch is set.
+#[tactic(auto, unfolding(crate::specs::Transfer::task_transfer))]
 pub fn task_transfer(setup: Setup, task: Task) -> Transfer
     ensures { result ≡ task_transfer setup task }
 {
     match task {
-        Task::EnableQuad2(status2) => {
-            qspi::transfer::command_only(command::write_status2_command(status::with_quad2(
-                status2,
-            )))
+        Task::EnableQuad2(status2) => write_status2(status::with(status::QE_SR2, status2)),
+        Task::EnableQuad1(status1) => write_status1(status::with(status::QE_SR1, status1)),
+        Task::DisableQuad2(status2) => write_status2(status::without(status::QE_SR2, status2)),
+        Task::DisableQuad1(status1) => write_status1(status::without(status::QE_SR1, status1)),
+        Task::Unprotect1 { before, .. } => {
+            write_status1(status::without(status::SR1_PROTECT_MASK, before))
         }
-        Task::EnableQuad1(status1) => {
-            qspi::transfer::command_only(command::write_status1_command(status::with_quad1(
-                status1,
-            )))
+        Task::Unprotect2 { status2, .. } => {
+            write_status2(status::without(status::SR2_PROTECT_MASK, status2))
         }
-        Task::DisableQuad2(status2) => {
-            qspi::transfer::command_only(command::write_status2_command(status::without_quad2(
-                status2,
-            )))
-        }
-        Task::DisableQuad1(status1) => {
-            qspi::transfer::command_only(command::write_status1_command(status::without_quad1(
-                status1,
-            )))
-        }
-        Task::Unprotect1 { before, status2: _ } => {
-            qspi::transfer::command_only(command::write_status1_command(status::unprotected1(
-                before,
-            )))
-        }
-        Task::Unprotect2 { before: _, status2 } => {
-            qspi::transfer::command_only(command::write_status2_command(status::unprotected2(
-                status2,
-            )))
-        }
-        Task::PageProgram { offset, len, done } => program_transfer(
+        Task::PageProgram(span) => program_transfer(
             setup,
-            place(offset, done),
-            done,
-            page_chunk(setup.device, len, done),
+            place(span),
+            span.done,
+            page_chunk(setup.device, span),
         ),
-        Task::Erase {
-            kind,
-            address,
-            end: _,
-        } => erase_transfer(kind, address),
+        Task::Erase { kind, address, .. } => erase_transfer(kind, address),
     }
 }
 
+fn write_status1(value: u8) -> Transfer
+    ensures { result ≡ command_only (write_status1_command value) }
+{
+    qspi::transfer::command_only(command::write_status1_command(value))
+}
+
+fn write_status2(value: u8) -> Transfer
+    ensures { result ≡ command_only (write_status2_command value) }
+{
+    qspi::transfer::command_only(command::write_status2_command(value))
+}
+
 // Whose wait follows.
+#[tactic(auto, unfolding(crate::specs::Transfer::task_operation))]
 pub fn task_operation(task: Task) -> Operation
     ensures { result ≡ task_operation task }
 {
     match task {
-        Task::EnableQuad2(_) => Operation::StatusWrite,
-        Task::EnableQuad1(_) => Operation::StatusWrite,
-        Task::DisableQuad2(_) => Operation::StatusWrite,
-        Task::DisableQuad1(_) => Operation::StatusWrite,
-        Task::Unprotect1 {
-            before: _,
-            status2: _,
-        } => Operation::StatusWrite,
-        Task::Unprotect2 {
-            before: _,
-            status2: _,
-        } => Operation::StatusWrite,
-        Task::PageProgram {
-            offset: _,
-            len: _,
-            done: _,
-        } => Operation::PageProgram,
-        Task::Erase {
-            kind,
-            address: _,
-            end: _,
-        } => match kind {
+        Task::EnableQuad2(_)
+        | Task::EnableQuad1(_)
+        | Task::DisableQuad2(_)
+        | Task::DisableQuad1(_)
+        | Task::Unprotect1 { .. }
+        | Task::Unprotect2 { .. } => Operation::StatusWrite,
+        Task::PageProgram(_) => Operation::PageProgram,
+        Task::Erase { kind, .. } => match kind {
             EraseKind::Sector => Operation::SectorErase,
             EraseKind::Block => Operation::BlockErase,
         },
     }
-}
-
-// range_in_bounds
-pub fn in_range(capacity: usize, offset: u32, length: usize) -> bool
-    ensures { result ≡ in_range capacity offset length }
-{
-    let at = offset as usize;
-    if at <= capacity {
-        length <= capacity - at
-    } else {
-        false
-    }
-}
-
-// is_multiple_of; of 0 only 0 is a multiple
-pub fn multiple_of(n: usize, unit: usize) -> bool
-    ensures { result ≡ multiple_of n unit }
-{
-    if unit == 0 { n == 0 } else { n % unit == 0 }
 }
 
 pub fn unit_size(device: NorDeviceInfo, kind: EraseKind) -> usize
@@ -239,24 +171,23 @@ pub fn unit_size(device: NorDeviceInfo, kind: EraseKind) -> usize
 }
 
 // erase_step: a whole block where one fits, else a sector
+#[tactic(auto, unfolding(crate::specs::Transfer::step_kind, crate::specs::Transfer::multiple_of))]
 pub fn step_kind(device: NorDeviceInfo, address: u32, end: u32) -> EraseKind
     ensures { result ≡ step_kind device address end }
 {
     let block = device.block_size;
-    if multiple_of(address as usize, block) {
-        if address <= end {
-            if block <= (end - address) as usize {
-                return EraseKind::Block;
-            }
-            return EraseKind::Sector;
-        }
-        EraseKind::Sector
+    if (address as usize).is_multiple_of(block)
+        && address <= end
+        && block <= (end - address) as usize
+    {
+        EraseKind::Block
     } else {
         EraseKind::Sector
     }
 }
 
 // erase_step's next address
+#[tactic(auto, unfolding(crate::specs::Transfer::after_unit))]
 pub fn after_unit(device: NorDeviceInfo, kind: EraseKind, address: u32) -> u32
     ensures { result ≡ after_unit device kind address }
 {

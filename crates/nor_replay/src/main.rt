@@ -1,8 +1,11 @@
 // Replays the construction of a single-line NOR over the tape on standard input, and prints its actions.
 #![tactic(auto)]
 
-use nor_tape::{program, replay};
+use lines::text::Writer;
+use nor_driver::part::Nor;
+use nor_tape::program;
 use qspi::bytes;
+use replay::call;
 use std::io;
 
 // A construction without quad mode gives out five actions; the line of the end is the sixth.
@@ -18,15 +21,14 @@ fn main(rt: HostRuntime) -> io::Result<()> {
     let data = [0u8; 0];
     let mut out = [0u8; 64];
     let mut now = program::begin(tape, &scratch);
-    let mut i: u32 = 0;
-    while i < LINES_MOST {
-        let len = program::line(now, &scratch, &mut out);
-        streams::write_all(&rt, bytes::delivered(&out, len))?;
+    for _ in 0..LINES_MOST {
+        let mut line = Writer::new(&mut out);
+        program::line(now, &scratch, &mut line);
+        streams::write_all(&rt, line.written())?;
         if program::over(now) {
             return Ok(());
         }
-        now = replay::advance(now, tape, &mut scratch, &mut buffer, &data);
-        i += 1;
+        now = call::advance::<Nor>(now, tape, &mut scratch, &mut buffer, &data);
     }
     Ok(())
 }

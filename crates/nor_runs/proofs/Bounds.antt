@@ -1,4 +1,6 @@
 -- The delays and the actions of the Rust's programs stay within their bounds.
+use Rattle.std.specs.Prelude.{Option, Some, None}
+use Rattle.spi_nor.specs.declared.config.NorQuadConfig.{NorQuadConfig}
 use Prim.Native.Nat.{ℕ, ◌+◌, ◌≤◌}
 use native.Mathlib.Omega.{arith}
 use mathlib.Core.Bool.{Bool, true, false}
@@ -15,7 +17,6 @@ use Rattle.spi_nor.specs.WaitTable.{largest_of}
 use Rattle.nor_runs.specs.Program.{program_of}
 use Rattle.nor_runs.specs.Run.{nor_driver}
 use Rattle.nor_runs.specs.Bound.{page_taken, quad_bound, unit_bound, delay_bound, quad_weight, weight_of, wait_actions, action_bound}
-use Rattle.spi_nor.specs.declared.config.QuadSetting.{QuadSetting}
 use Rattle.nor_phases.specs.declared.phase.EraseKind.{EraseKind}
 use Rattle.nor_phases.specs.declared.call.Call.{Call}
 use Rattle.nor_phases.specs.declared.setup.Setup.{Setup}
@@ -34,9 +35,9 @@ unit-delays : (kind : EraseKind) → largest_of (erase_operation kind) ≤ unit_
 unit-delays EraseKind.Sector = omega arith
 unit-delays EraseKind.Block = omega arith
 
-construction-delays : (taken : Bool) (q : QuadSetting) → 0 + 0 + pick taken (quad_weight asked q) 0 ≤ pick taken (quad_bound q) 0
-construction-delays true QuadSetting.Single = omega arith
-construction-delays true (QuadSetting.Quad q) = omega arith
+construction-delays : (taken : Bool) (q : Option NorQuadConfig) → 0 + 0 + pick taken (quad_weight asked q) 0 ≤ pick taken (quad_bound q) 0
+construction-delays true None = omega arith
+construction-delays true (Some q) = omega arith
 construction-delays false q = omega arith
 
 within : (flash : Setup) (call : Call) (b d : ℕ) → Bounds nor_driver flash call b d → weight_of asked flash call b d ≤ delay_bound flash call d → Bounded delays (delay_bound flash call d) (program_of flash call b d)

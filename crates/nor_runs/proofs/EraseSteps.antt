@@ -8,16 +8,13 @@ use lib.Dec.{leb}
 use borrow.Author.Tests.{leb-true, eq-eqb}
 use Rattle.qspi.specs.Choice.{pick}
 use Rattle.qspi.proofs.Cases.{by_order}
-use Rattle.spi_flash.proofs.Pieces as pieces
+use Rattle.spi_flash.proofs.Pieces.{range-in}
 use Rattle.spi_nor.specs.Config.{in_bounds_of}
-use Rattle.nor_phases.specs.Transfer.{in_range, multiple_of, unit_size, step_kind}
+use Rattle.spi_flash.specs.Range.{range_in_bounds}
+use Rattle.nor_phases.specs.Transfer.{multiple_of, unit_size, step_kind}
 use Rattle.spi_nor.specs.declared.config.NorDeviceInfo.{NorDeviceInfo}
 use Rattle.nor_phases.specs.declared.phase.EraseKind.{EraseKind}
 use Rattle.spi_nor.proofs.DeviceBounds.{device_bounds}
-
-pub range-in : (capacity offset n : ℕ) → offset + n ≤ capacity → in_range capacity offset n ≡ true
-unfolding in_range
-range-in capacity offset n h = pieces.range-in capacity offset n h
 
 -- two multiples of a unit are a unit apart
 apart : (unit a b : ℕ) → a % unit ≡ 0 → b % unit ≡ 0 → a < b → a + unit ≤ b
@@ -49,7 +46,7 @@ module _ (device : NorDeviceInfo) (address to : ℕ) where
       first false e = g
 
   pub record StepFits (kind : EraseKind) : Type 0 where
-    pub fits : in_range device.capacity address (unit_size device kind) ≡ true
+    pub fits : range_in_bounds device.capacity address (unit_size device kind) ≡ true
     pub aligned : multiple_of address (unit_size device kind) ≡ true
     pub next : (address + unit_size device kind) % device.sector_size ≡ 0
 

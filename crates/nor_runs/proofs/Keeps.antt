@@ -1,16 +1,21 @@
 -- What a call keeps from transfer to transfer.
+use Rattle.std.specs.Prelude.{Option, Some, None}
+use Rattle.spi_nor.specs.declared.config.NorQuadConfig.{NorQuadConfig}
 use Prim.Native.Nat.{ℕ, ◌+◌}
 use mathlib.Core.Bool.{Bool, true, false, not}
 use mathlib.Core.Path.{◌≡◌, refl}
 use lib.Dec.{ltb, leb, eqb}
+use Rattle.std.specs.Prelude.{Err}
 use Rattle.qspi.specs.Choice.{pick}
 use Rattle.spi_flash.specs.Wait.{first_wait, next_wait}
 use Rattle.spi_flash.specs.Machine.{Onward}
 use Rattle.spi_flash.specs.declared.wait.Wait.{Wait}
 use Rattle.spi_nor.specs.Opcode.{timings_of}
 use Rattle.spi_nor.specs.Status.{busy_of, write_enabled_of, quad_enabled1_of, quad_enabled2_of, unprotected1_of, unprotected2_of}
-use Rattle.nor_phases.specs.Transfer.{place_of, chunk_of, page_of, task_operation, in_range, multiple_of, unit_size, step_kind, after_unit}
-use Rattle.nor_next.specs.Next.{byte_of, after_phase}
+use Rattle.nor_phases.specs.Transfer.{place_of, chunk_of, page_of, task_operation, multiple_of, unit_size, step_kind, after_unit}
+use Rattle.qspi.specs.Bytes.{byte_of}
+use Rattle.nor_next.specs.Next.{after_phase}
+use Rattle.spi_flash.specs.Range.{range_in_bounds}
 use Rattle.nor_steps.specs.Register.{id_of, device_at, device_for, known_as, built_then, identified_then}
 use Rattle.nor_pages.specs.Read.{read_from}
 use Rattle.nor_pages.specs.Write.{program_from, verify_then, verified_then}
@@ -20,10 +25,8 @@ use Rattle.nor_pages.specs.Erase.{erase_unit, erase_from}
 use Rattle.nor_steps.specs.Protection.{unprotect_first, unprotect_second}
 use Rattle.spi_nor.specs.Config.{in_bounds_of, from_jedec}
 use Rattle.spi_nor.proofs.DeviceBounds.{device_bounds}
-use Rattle.spi_nor.specs.declared.config.DeviceSetting.{DeviceSetting}
 use Rattle.spi_nor.specs.declared.config.NorDeviceInfo.{NorDeviceInfo}
 use Rattle.spi_nor.specs.declared.config.NorJedecId.{NorJedecId}
-use Rattle.spi_nor.specs.declared.config.QuadSetting.{QuadSetting}
 use Rattle.nor_phases.specs.declared.phase.EraseKind.{EraseKind}
 use Rattle.nor_phases.specs.declared.phase.Phase.{Phase}
 use Rattle.nor_phases.specs.declared.phase.Task.{Task}
@@ -32,7 +35,7 @@ use Rattle.nor_answers.specs.declared.answer.Answer.{Answer}
 use Rattle.qspi.specs.declared.transfer.Transfer.{Transfer}
 use Rattle.spi_flash.specs.declared.error.FlashError.{FlashError}
 use Rattle.nor_phases.specs.declared.setup.Setup.{Setup}
-use Rattle.nor_steps.specs.declared.then.Then.{Then}
+use Rattle.nor_steps.specs.Then.{Then}
 use Rattle.nor_runs.proofs.Places.{decide, Valid, Built, Stays}
 
 -- a test between two ways of going on
@@ -44,7 +47,7 @@ keeps-pick R false x y h k = k
 pub record Passes (R : Then → Type 0) (s : Setup) : Type 0 where
   pub go : (t : Transfer) (phase : Phase) → Built phase → R (go_to s t phase)
   pub end : (answer : Answer) → R (end_with s answer)
-  pub fail : (e : FlashError) → R (Then.Fail e)
+  pub fail : (e : FlashError) → R (Err e)
 
 -- such a call goes on with what the driver holds
 pub stays : (s : Setup) → Passes (Stays s) s
@@ -65,7 +68,7 @@ module _ (R : Then → Type 0) (s : Setup) (passes : Passes R s) where
 
   keeps-verify : (offset len done : ℕ) → R (verify_then s offset len done)
   unfolding verify_then
-  keeps-verify offset len done = keeps-pick R (in_range s.device.capacity (place_of offset done) (page_of s.device len done)) _ _ (passes.go _ _ tt) (passes.fail _)
+  keeps-verify offset len done = keeps-pick R (range_in_bounds s.device.capacity (place_of offset done) (page_of s.device len done)) _ _ (passes.go _ _ tt) (passes.fail _)
 
   keeps-verified : (offset len done v : ℕ) → R (verified_then s offset len done v)
   unfolding verified_then
@@ -74,7 +77,7 @@ module _ (R : Then → Type 0) (s : Setup) (passes : Passes R s) where
   pub keeps-unit : (kind : EraseKind) (address to : ℕ) → R (erase_unit s kind address to)
   unfolding erase_unit
   keeps-unit kind address to =
-      keeps-pick R (in_range s.device.capacity address (unit_size s.device kind)) _ _
+      keeps-pick R (range_in_bounds s.device.capacity address (unit_size s.device kind)) _ _
       (keeps-pick R (multiple_of address (unit_size s.device kind)) _ _ (passes.go _ _ tt) (passes.fail _)) (passes.fail _)
 
   pub keeps-erase : (address to : ℕ) → R (erase_from s address to)
@@ -97,7 +100,7 @@ module _ (R : Then → Type 0) (s : Setup) (passes : Passes R s) where
   keeps-task (Task.DisableQuad1 x) = passes.go _ _ tt
   keeps-task (Task.Unprotect1 before status2) = keeps-second before status2
   keeps-task (Task.Unprotect2 before status2) = passes.go _ _ tt
-  keeps-task (Task.PageProgram offset len done) = keeps-verify offset len done
+  keeps-task (Task.PageProgram p) = keeps-verify p.offset p.len p.done
   keeps-task (Task.Erase kind address to) = keeps-erase (after_unit s.device kind address) to
 
   keeps-wait : (task : Task) (w : Wait) → R (wait_then s task w)
@@ -131,8 +134,8 @@ module _ (R : Then → Type 0) (s : Setup) (passes : Passes R s) where
   keeps-built Phase.UnprotectRead1 h v = passes.go _ _ tt
   keeps-built (Phase.UnprotectRead2 before) h v = keeps-first before (byte_of v)
   keeps-built (Phase.UnprotectAfter before) h v = passes.end _
-  keeps-built (Phase.Reading offset len done) h v = keeps-read offset len (done + chunk_of len done)
-  keeps-built (Phase.Verifying offset len done) h v = keeps-verified offset len done v
+  keeps-built (Phase.Reading p) h v = keeps-read p.offset p.len (p.done + chunk_of p.len p.done)
+  keeps-built (Phase.Verifying p) h v = keeps-verified p.offset p.len p.done v
   keeps-built (Phase.Writing task WriteStep.Enable waited) h v = passes.go _ _ tt
   keeps-built (Phase.Writing task WriteStep.Latch waited) h v = keeps-latched task (byte_of v)
   keeps-built (Phase.Writing task WriteStep.Command waited) h v = keeps-wait task (first_wait (timings_of (task_operation task)))
@@ -142,18 +145,18 @@ module _ (R : Then → Type 0) (s : Setup) (passes : Passes R s) where
 -- ---- the device stays within the bounds
 
 -- a detected device is within the bounds, and the caller's own was judged when the call began
-keeps-device : (setting : DeviceSetting) (device : NorDeviceInfo) (id : NorJedecId) → in_bounds_of device ≡ true → in_bounds_of (device_at setting device id) ≡ true
-keeps-device DeviceSetting.Detect device id h = device_bounds.accepts (from_jedec id) (device_bounds.detected id)
-keeps-device (DeviceSetting.Given own) device id h = h
+keeps-device : (setting : Option NorDeviceInfo) (device : NorDeviceInfo) (id : NorJedecId) → in_bounds_of device ≡ true → in_bounds_of (device_at setting device id) ≡ true
+keeps-device None device id h = device_bounds.accepts (from_jedec id) (device_bounds.detected id)
+keeps-device (Some own) device id h = h
 
 module _ (s : Setup) (valid : in_bounds_of s.device ≡ true) where
   keeps-known : (v : ℕ) → in_bounds_of (known_as s v).device ≡ true
   unfolding device_for
   keeps-known v = keeps-device s.config.device s.device (id_of v) valid
 
-  keeps-quad : (quad : QuadSetting) (v : ℕ) → Onward Valid (decide (built_then quad (known_as s v)))
-  keeps-quad QuadSetting.Single v = tt
-  keeps-quad (QuadSetting.Quad q) v = keeps-known v
+  keeps-quad : (quad : Option NorQuadConfig) (v : ℕ) → Onward Valid (decide (built_then quad (known_as s v)))
+  keeps-quad None v = tt
+  keeps-quad (Some q) v = keeps-known v
 
   keeps-identified : (v : ℕ) → Onward Valid (decide (identified_then s v))
   unfolding identified_then
@@ -186,6 +189,6 @@ module _ (s : Setup) (valid : in_bounds_of s.device ≡ true) where
   keeps Phase.UnprotectRead1 v = going Phase.UnprotectRead1 tt v
   keeps (Phase.UnprotectRead2 before) v = going (Phase.UnprotectRead2 before) tt v
   keeps (Phase.UnprotectAfter before) v = going (Phase.UnprotectAfter before) tt v
-  keeps (Phase.Reading offset len done) v = going (Phase.Reading offset len done) tt v
-  keeps (Phase.Verifying offset len done) v = going (Phase.Verifying offset len done) tt v
+  keeps (Phase.Reading p) v = going (Phase.Reading p) tt v
+  keeps (Phase.Verifying p) v = going (Phase.Verifying p) tt v
   keeps (Phase.Writing task at waited) v = going (Phase.Writing task at waited) tt v

@@ -10,12 +10,13 @@ use Rattle.std.specs.Prelude.{if◌then◌else◌}
 use Rattle.spi_flash.specs.Prog.{Prog, ret, ◌>>=◌, ◌>>◌, refuse, transfer}
 use Rattle.spi_nor.specs.Opcode.{MAX-BULK-LEN}
 use Rattle.spi_nor.specs.Config.{in_bounds_of}
-use Rattle.nor_phases.specs.Transfer.{place_of, chunk_of, page_of, read_transfer, in_range, unit_size, step_kind, after_unit}
+use Rattle.spi_flash.specs.Range.{range_in_bounds}
+use Rattle.nor_phases.specs.Transfer.{place_of, chunk_of, page_of, read_transfer, unit_size, step_kind, after_unit}
 use Rattle.nor_runs.specs.Rust.{Nothing, read-loop, reading, page-program, write-loop, writing, erase-unit, erase-loop, erasing}
 use Rattle.spi_nor.specs.declared.config.NorDeviceInfo.{NorDeviceInfo}
 use Rattle.nor_phases.specs.declared.phase.EraseKind.{EraseKind}
 use Rattle.nor_phases.specs.declared.setup.Setup.{Setup}
-use Rattle.spi_flash.proofs.Pieces.{range-told, piece-some}
+use Rattle.spi_flash.proofs.Pieces.{range-told}
 use Rattle.spi_flash.proofs.Loops.{Counts, without-fuel}
 use Rattle.spi_nor.proofs.DeviceBounds.{device_bounds}
 use Rattle.nor_phases.proofs.Pieces.{chunk-left, page-whole}
@@ -24,11 +25,11 @@ use Rattle.nor_phases.proofs.Pieces.{chunk-left, page-whole}
 
 pub chunk-some : (len done : ℕ) → done < len → 1 ≤ chunk_of len done
 unfolding chunk_of
-chunk-some len done h = piece-some MAX-BULK-LEN len done (omega arith) h
+chunk-some len done h = omega arith
 
 pub page-some : (device : NorDeviceInfo) (len done : ℕ) → 1 ≤ device.page_size → done < len → 1 ≤ page_of device len done
 unfolding page_of
-page-some device len done m h = piece-some device.page_size len done m h
+page-some device len done m h = omega arith
 
 -- ---- read and write
 
@@ -62,11 +63,6 @@ page-turns device len some = record { none = λ done t. omega arith; fewer = λ 
 
 -- ---- erase
 
--- a unit in range ends within the part
-pub in-range : (capacity offset n : ℕ) → in_range capacity offset n ≡ true → offset + n ≤ capacity
-unfolding in_range
-in-range capacity offset n h = range-told capacity offset n h
-
 pub unit-some : (device : NorDeviceInfo) → in_bounds_of device ≡ true → (kind : EraseKind) → 1 ≤ unit_size device kind
 unit-some device h EraseKind.Sector = (device_bounds.accepted device h).sector
 unit-some device h EraseKind.Block =
@@ -75,17 +71,17 @@ unit-some device h EraseKind.Block =
 
 -- and there the u32 sum does not wrap
 pub after-unit : (device : NorDeviceInfo) → in_bounds_of device ≡ true → (kind : EraseKind) (address : ℕ) →
-    in_range device.capacity address (unit_size device kind) ≡ true → after_unit device kind address ≡ address + unit_size device kind
+    range_in_bounds device.capacity address (unit_size device kind) ≡ true → after_unit device kind address ≡ address + unit_size device kind
 unfolding after_unit
 after-unit device h kind address r =
-    let l = in-range device.capacity address (unit_size device kind) r in
+    let l = range-told device.capacity address (unit_size device kind) r in
     let c = (device_bounds.accepted device h).capacity in
     let small : unit_size device kind % 4294967296 ≡ unit_size device kind = mod-eq_of_lt (omega arith) in
     rw small (mod-eq_of_lt (omega arith))
 
 module _ (flash : Setup) (bounds : in_bounds_of flash.device ≡ true) (to : ℕ) where
   -- what stands behind a unit that is out of range counts for nothing
-  out_of_range : {A : Type 0} (kind : EraseKind) (address : ℕ) (p q : Prog A) → in_range flash.device.capacity address (unit_size flash.device kind) ≡ false →
+  out_of_range : {A : Type 0} (kind : EraseKind) (address : ℕ) (p q : Prog A) → range_in_bounds flash.device.capacity address (unit_size flash.device kind) ≡ false →
       (erase-unit flash kind address >> p) ≡ (erase-unit flash kind address >> q)
   unfolding erase-unit refuse ◌>>◌ ◌>>=◌
   out_of_range kind address p q e = rw e
@@ -93,9 +89,9 @@ module _ (flash : Setup) (bounds : in_bounds_of flash.device ≡ true) (to : ℕ
   -- two ways on that agree behind a unit in range
   unit-then : (kind : EraseKind) (address : ℕ) (p q : Prog Nothing) → (after_unit flash.device kind address ≡ address + unit_size flash.device kind → p ≡ q) →
       (erase-unit flash kind address >> p) ≡ (erase-unit flash kind address >> q)
-  unit-then kind address p q f = by (in_range flash.device.capacity address (unit_size flash.device kind)) refl
+  unit-then kind address p q f = by (range_in_bounds flash.device.capacity address (unit_size flash.device kind)) refl
     where
-      by : (b : Bool) → in_range flash.device.capacity address (unit_size flash.device kind) ≡ b → (erase-unit flash kind address >> p) ≡ (erase-unit flash kind address >> q)
+      by : (b : Bool) → range_in_bounds flash.device.capacity address (unit_size flash.device kind) ≡ b → (erase-unit flash kind address >> p) ≡ (erase-unit flash kind address >> q)
       by true e = rw (f (after-unit flash.device bounds kind address e))
       by false e = out_of_range kind address p q e
 

@@ -1,4 +1,6 @@
 -- How each call begins on a driver at rest, and that the Rust's program begins likewise.
+use Rattle.std.specs.Prelude.{Option, Some, None}
+use Rattle.spi_nor.specs.declared.config.NorQuadConfig.{NorQuadConfig}
 use Prim.Native.Nat.{ℕ}
 use native.Mathlib.Omega.{arith}
 use mathlib.Core.Bool.{Bool, true, false}
@@ -17,13 +19,14 @@ use Rattle.flash_runs.specs.Driver.{constructs, uses}
 use Rattle.flash_runs.proofs.General as General
 use Rattle.flash_runs.proofs.Supplies.{Selects, SelectsFirst, Construction, Use, OpensAs, onward-stays}
 use Rattle.spi_nor.specs.Config.{in_bounds_of, single_config}
-use Rattle.spi_nor.specs.declared.config.QuadSetting.{QuadSetting}
 use Rattle.spi_nor.specs.declared.config.SpiNorConfig.{SpiNorConfig}
-use Rattle.nor_phases.specs.Transfer.{place_of, chunk_of, read_at, read_transfer, in_range, multiple_of, unit_size, step_kind, after_unit}
+use Rattle.spi_flash.specs.Range.{range_in_bounds}
+use Rattle.nor_phases.specs.Transfer.{place_of, chunk_of, read_at, read_transfer, multiple_of, unit_size, step_kind, after_unit}
 use Rattle.nor_pages.specs.Read.{read_then, read_from}
 use Rattle.nor_pages.specs.Write.{write_then, program_from}
 use Rattle.nor_pages.specs.Erase.{erase_unit, erase_one, erase_then, erase_from}
-use Rattle.nor_driver.specs.Call.{fresh_setup, opening_as}
+use Rattle.machine.specs.Shape.{opening_as}
+use Rattle.nor_driver.specs.Call.{fresh_setup}
 use Rattle.nor_driver.specs.Settle.{then_as}
 use Rattle.nor_opening.specs.Opening.{opening_of}
 use Rattle.nor_runs.specs.Rust.{read, write, erase-unit, erase, erasing}
@@ -35,7 +38,7 @@ use Rattle.nor_answers.specs.declared.answer.Answer.{Answer}
 use Rattle.nor_phases.specs.declared.call.Call.{Call}
 use Rattle.nor_phases.specs.declared.setup.Setup.{Setup}
 use Rattle.nor_steps.specs.Go.{go_to}
-use Rattle.nor_steps.specs.declared.then.Then.{Then}
+use Rattle.nor_steps.specs.Then.{Then}
 use Rattle.nor_runs.proofs.Loops.{erasing-loop}
 use Rattle.nor_runs.proofs.Places.{place, decide, nor_parts, Valid, Built, Stays}
 use Rattle.nor_runs.proofs.Keeps.{stays, keeps-read, keeps-program, keeps-unit, keeps-erase, keeps-pick}
@@ -45,13 +48,13 @@ use Rattle.nor_runs.proofs.Simulation.{meaning, starts, reads_on, writes-on, era
 
 reads : (s : Setup) (offset len : ℕ) → read s offset len >> ret (leaving s Answer.Done) ≡ tree meaning (decide (read_then s offset len))
 unfolding read read_then refuse ◌>>=◌ ◌>>◌
-reads s offset len = by_cases (in_range s.device.capacity offset len) (λ e. rw e (reads_on s offset len 0)) (λ e. rw e)
+reads s offset len = by_cases (range_in_bounds s.device.capacity offset len) (λ e. rw e (reads_on s offset len 0)) (λ e. rw e)
 
 module _ (s : Setup) (valid : in_bounds_of s.device ≡ true) where
   writes : (offset len : ℕ) → write s offset len >> ret (leaving s Answer.Done) ≡ tree meaning (decide (write_then s offset len))
   unfolding write write_then refuse ◌>>=◌ ◌>>◌
   writes offset len =
-      by_cases (in_range s.device.capacity offset len)
+      by_cases (range_in_bounds s.device.capacity offset len)
       (λ e. by_cases (multiple_of offset s.device.page_size)
       (λ d. by_cases (multiple_of len s.device.page_size) (λ c. rw (e, d, c) (writes-on s valid offset len 0)) (λ c. rw (e, d, c)))
       (λ d. rw (e, d)))
@@ -82,12 +85,12 @@ module _ (s : Setup) (valid : in_bounds_of s.device ≡ true) where
 
 keeps-read-call : (s : Setup) (offset len : ℕ) → Stays s (read_then s offset len)
 unfolding read_then
-keeps-read-call s offset len = keeps-pick (Stays s) (in_range s.device.capacity offset len) _ _ (keeps-read (Stays s) s (stays s) offset len 0) tt
+keeps-read-call s offset len = keeps-pick (Stays s) (range_in_bounds s.device.capacity offset len) _ _ (keeps-read (Stays s) s (stays s) offset len 0) tt
 
 keeps-write-call : (s : Setup) (offset len : ℕ) → Stays s (write_then s offset len)
 unfolding write_then
 keeps-write-call s offset len =
-    keeps-pick (Stays s) (in_range s.device.capacity offset len) _ _
+    keeps-pick (Stays s) (range_in_bounds s.device.capacity offset len) _ _
     (keeps-pick (Stays s) (multiple_of offset s.device.page_size) _ _
     (keeps-pick (Stays s) (multiple_of len s.device.page_size) _ _ (keeps-program (Stays s) s (stays s) offset len 0) tt) tt) tt
 
@@ -110,23 +113,23 @@ selects-pick false x y h k = k
 
 selects-read : (s : Setup) (offset len : ℕ) → Selecting (read_then s offset len)
 unfolding read_then read_from read_transfer
-selects-read s offset len = selects-pick (in_range s.device.capacity offset len) _ _ (selects-pick (ltb 0 len) _ _ (at s.config.quad) tt) tt
+selects-read s offset len = selects-pick (range_in_bounds s.device.capacity offset len) _ _ (selects-pick (ltb 0 len) _ _ (at s.config.quad) tt) tt
   where
-    at : (q : QuadSetting) → Selects (read_at q (place_of offset 0) (chunk_of len 0) (Sink.Buffer 0))
-    at QuadSetting.Single = λ select. refl
-    at (QuadSetting.Quad q) = λ select. refl
+    at : (q : Option NorQuadConfig) → Selects (read_at q (place_of offset 0) (chunk_of len 0) (Sink.Buffer 0))
+    at None = λ select. refl
+    at (Some q) = λ select. refl
 
 selects-write : (s : Setup) (offset len : ℕ) → Selecting (write_then s offset len)
 unfolding write_then program_from
 selects-write s offset len =
-    selects-pick (in_range s.device.capacity offset len) _ _
+    selects-pick (range_in_bounds s.device.capacity offset len) _ _
     (selects-pick (multiple_of offset s.device.page_size) _ _
     (selects-pick (multiple_of len s.device.page_size) _ _ (selects-pick (ltb 0 len) _ _ (λ select. refl) tt) tt) tt) tt
 
 selects-unit : (s : Setup) (kind : EraseKind) (address end : ℕ) → Selecting (erase_unit s kind address end)
 unfolding erase_unit
 selects-unit s kind address end =
-    selects-pick (in_range s.device.capacity address (unit_size s.device kind)) _ _
+    selects-pick (range_in_bounds s.device.capacity address (unit_size s.device kind)) _ _
     (selects-pick (multiple_of address (unit_size s.device kind)) _ _ (λ select. refl) tt) tt
 
 selects-erase : (s : Setup) (from to : ℕ) → Selecting (erase_then s from to)

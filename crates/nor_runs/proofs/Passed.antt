@@ -6,19 +6,20 @@ use lib.Dec.{ltb}
 use Rattle.spi_flash.specs.Prog.{ret, ◌>>◌}
 use Rattle.flash_runs.proofs.Asking.{not-refused, passed}
 use Rattle.flash_runs.proofs.Supplies.{Asks}
-use Rattle.nor_phases.specs.Transfer.{in_range, multiple_of, unit_size}
+use Rattle.spi_flash.specs.Range.{range_in_bounds}
+use Rattle.nor_phases.specs.Transfer.{multiple_of, unit_size}
 use Rattle.nor_phases.specs.declared.phase.EraseKind.{EraseKind}
 use Rattle.nor_phases.specs.declared.setup.Setup.{Setup}
 use Rattle.nor_runs.specs.Rust.{read, write, erase-unit, erase}
 use Rattle.nor_runs.specs.Program.{Left}
 
 module _ (flash : Setup) (left : Left) where
-  pub read-passed : (offset len : ℕ) → Asks (read flash offset len >> ret left) → in_range flash.device.capacity offset len ≡ true
+  pub read-passed : (offset len : ℕ) → Asks (read flash offset len >> ret left) → range_in_bounds flash.device.capacity offset len ≡ true
   unfolding read ◌>>◌
   read-passed offset len h = (passed _ _ _ _ h).0
 
   pub write-passed : (offset len : ℕ) → Asks (write flash offset len >> ret left) →
-      (in_range flash.device.capacity offset len ≡ true) × (multiple_of offset flash.device.page_size ≡ true) × (multiple_of len flash.device.page_size ≡ true)
+      (range_in_bounds flash.device.capacity offset len ≡ true) × (multiple_of offset flash.device.page_size ≡ true) × (multiple_of len flash.device.page_size ≡ true)
   unfolding write ◌>>◌
   write-passed offset len h =
       let a = passed _ _ _ _ h in
@@ -35,7 +36,7 @@ module _ (flash : Setup) (left : Left) where
       (a.0, b.0, c.0, (passed _ _ _ _ c.1).0)
 
   pub unit-passed : (kind : EraseKind) (offset : ℕ) → Asks (erase-unit flash kind offset >> ret left) →
-      (in_range flash.device.capacity offset (unit_size flash.device kind) ≡ true) × (multiple_of offset (unit_size flash.device kind) ≡ true)
+      (range_in_bounds flash.device.capacity offset (unit_size flash.device kind) ≡ true) × (multiple_of offset (unit_size flash.device kind) ≡ true)
   unfolding erase-unit ◌>>◌
   unit-passed kind offset h =
       let a = passed _ _ _ _ h in

@@ -1,7 +1,7 @@
 -- Where a call stands, what the code decides there, and how each call opens: the NOR driver as flash_runs makes one.
 use mathlib.Core.Bool.{true}
 use mathlib.Core.Path.{◌≡◌}
-use Rattle.frames.specs.declared.frame.Outcome.{Outcome}
+use Rattle.frames.specs.Frame.{Outcome}
 use Rattle.spi_flash.specs.Machine.{Decision}
 use Rattle.flash_runs.proofs.General as General
 use Rattle.flash_runs.proofs.General.{Parts, parts_of}
@@ -9,13 +9,13 @@ use Rattle.flash_runs.proofs.Supplies as Supplies
 use Rattle.spi_nor.specs.Config.{in_bounds_of}
 use Rattle.nor_driver.specs.Call.{nor_calls}
 use Rattle.nor_driver.specs.Settle.{then_as}
-use Rattle.nor_reply.specs.Step.{nor_next}
+use Rattle.nor_driver.specs.Step.{nor_next}
 use Rattle.nor_runs.specs.Program.{Left}
 use Rattle.nor_answers.specs.declared.answer.Answer.{Answer}
 use Rattle.nor_phases.specs.declared.call.Call.{Call}
 use Rattle.nor_phases.specs.declared.phase.Phase.{Phase}
 use Rattle.nor_phases.specs.declared.setup.Setup.{Setup}
-use Rattle.nor_steps.specs.declared.then.Then.{Then}
+use Rattle.nor_steps.specs.Then.{Then}
 
 -- where a call stands, with what the driver holds
 abbrev pub Place : Type 0
@@ -61,8 +61,8 @@ Built Phase.DisableVerify1 = Unit {0}
 Built Phase.UnprotectRead1 = Unit {0}
 Built (Phase.UnprotectRead2 before) = Unit {0}
 Built (Phase.UnprotectAfter before) = Unit {0}
-Built (Phase.Reading offset len done) = Unit {0}
-Built (Phase.Verifying offset len done) = Unit {0}
+Built (Phase.Reading p) = Unit {0}
+Built (Phase.Verifying p) = Unit {0}
 Built (Phase.Writing task at waited) = Unit {0}
 
 -- the driver holds what it held when the call began, and the call is no construction

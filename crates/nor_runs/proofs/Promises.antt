@@ -1,6 +1,7 @@
 -- The NOR driver keeps every promise.
 -- Assumes nothing.
-use Rattle.frames.specs.declared.frame.Outcome.{Outcome}
+use Rattle.std.specs.Prelude.{Ok, Err}
+use Rattle.frames.specs.Frame.{Outcome}
 use Rattle.flash_runs.proofs.Promises.{promises}
 use Rattle.flash_runs.proofs.Supplies.{Supplies}
 use Rattle.nor_next.specs.Next.{next_of}
@@ -18,8 +19,8 @@ use Rattle.nor_runs.proofs.Is.{nor-is}
 
 stays-next : (s : Setup) (phase : Phase) (o : Outcome) → Built phase → Stays s (next_of s phase o)
 unfolding next_of
-stays-next s phase (Outcome.Value v) h = keeps-built (Stays s) s (stays s) phase h v
-stays-next s phase (Outcome.Failed code) h = tt
+stays-next s phase (Ok v) h = keeps-built (Stays s) s (stays s) phase h v
+stays-next s phase (Err error) h = tt
 
 supplies : Supplies nor_driver nor_parts Valid Built meaning
 supplies = record {

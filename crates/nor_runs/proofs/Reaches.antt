@@ -1,4 +1,6 @@
 -- Replies on which each call's program comes to its bill, and to a good end.
+use Rattle.spi_nor.specs.declared.config.NorQuadConfig.{NorQuadConfig}
+use Rattle.spi_nor.specs.declared.config.NorDeviceInfo.{NorDeviceInfo}
 use Prim.Native.Nat.{ℕ, zero, suc, ◌+◌, ◌-◌, ◌*◌, ◌/◌, ◌%◌, ◌≤◌, ◌<◌}
 use native.Mathlib.Omega.{arith}
 use native.Mathlib.Nat.{div-add-mod', mod-eq_of_lt}
@@ -10,9 +12,9 @@ use lib.ListN.{length}
 use borrow.Author.Tests.{leb-true, leb-false, ltb-true, ltb-false, eqb-true, lt-ltb, le-ltb}
 use Rattle.qspi.specs.Choice.{pick}
 use Rattle.qspi.specs.declared.transfer.Sink.{Sink}
-use Rattle.std.specs.Prelude.{if◌then◌else◌}
+use Rattle.std.specs.Prelude.{if◌then◌else◌, Option, Some, None}
 use Rattle.spi_flash.specs.Prog.{Prog, ret, ◌>>=◌, ◌>>◌, refuse, transfer}
-use Rattle.qspi.specs.Bytes.{AllBytes}
+use Rattle.qspi.specs.Bytes.{AllBytes, byte_of}
 use Rattle.spi_flash.specs.Path.{Answers, delays, Reaches, Ends}
 use Rattle.qspi.proofs.Cases.{by_cases}
 use Rattle.spi_flash.proofs.Laws.{ends-ret, ends-bind, ends-then, ends-eq, ends-transfer, ends-refuse, ends-guard, ends-reaches}
@@ -20,18 +22,15 @@ use Rattle.spi_flash.proofs.Loops.{ends-loop}
 use Rattle.spi_flash.proofs.Replies.{byte, zeros, delivery, same_bytes}
 use Rattle.flash_runs.proofs.Supplies.{Asks, Bounds}
 use Rattle.spi_nor.specs.Opcode.{MAX-BULK-LEN}
-use Rattle.spi_nor.specs.Status.{busy_of, write_enabled_of, quad_enabled1_of, quad_enabled2_of, unprotected1_of, unprotected2_of}
 use Rattle.spi_nor.specs.Config.{from_jedec, single_config, in_bounds_of}
-use Rattle.nor_phases.specs.Transfer.{place_of, page_of, read_at, read_transfer, program_at, program_transfer, in_range, multiple_of, unit_size, step_kind, after_unit}
-use Rattle.nor_next.specs.Next.{byte_of}
+use Rattle.nor_phases.specs.Transfer.{place_of, page_of, read_at, read_transfer, program_at, program_transfer, multiple_of, unit_size, step_kind, after_unit}
+use Rattle.spi_flash.specs.Range.{range_in_bounds}
 use Rattle.nor_steps.specs.Register.{device_at, device_for, id_of, known_as}
 use Rattle.nor_driver.specs.Call.{given_at, fresh_setup}
 use Rattle.nor_runs.specs.Rust.{read-status1, read-status2, is-busy, write-enable, write-status1, write-status2, jedec-id, unique-id, quad-enabled, enable-quad, disable-quad, reading, read, read_back, page-program, writing, write, erase-unit, erase-loop, erasing, erase, unprotect, quad-if, with-config}
 use Rattle.nor_runs.specs.Program.{Left, program_of}
 use Rattle.nor_runs.specs.Bound.{page_taken, quad_bound, construction_bound, unit_bound, erase_sum, delay_bound}
 use Rattle.nor_runs.specs.Run.{sort_of, can_end, nor_driver}
-use Rattle.spi_nor.specs.declared.config.DeviceSetting.{DeviceSetting}
-use Rattle.spi_nor.specs.declared.config.QuadSetting.{QuadSetting}
 use Rattle.spi_nor.specs.declared.config.SpiNorConfig.{SpiNorConfig}
 use Rattle.nor_phases.specs.declared.phase.EraseKind.{EraseKind}
 use Rattle.nor_phases.specs.declared.call.Call.{Call}
@@ -39,10 +38,11 @@ use Rattle.nor_phases.specs.declared.setup.Setup.{Setup}
 use Rattle.spi_nor.specs.declared.opcode.Operation.{Operation}
 use Rattle.spi_nor.proofs.DeviceBounds.{device_bounds}
 use Rattle.nor_phases.proofs.Pieces.{page-whole}
-use Rattle.nor_runs.proofs.Loops.{reading-loop, writing-loop, chunk-turns, page-turns, in-range, after-unit}
+use Rattle.spi_flash.proofs.Pieces.{range-told, range-in}
+use Rattle.nor_runs.proofs.Loops.{reading-loop, writing-loop, chunk-turns, page-turns, after-unit}
 use Rattle.nor_runs.proofs.Waits.{wait-ends}
 use Rattle.nor_runs.proofs.Passed.{read-passed, write-passed, erase-passed, unit-passed}
-use Rattle.nor_runs.proofs.EraseSteps.{range-in, step_fits}
+use Rattle.nor_runs.proofs.EraseSteps.{step_fits}
 
 module _ (given : List ℕ) where
   -- ---- registers
@@ -54,7 +54,7 @@ module _ (given : List ℕ) where
   ends-status2 b h = ends-bind _ (ends-transfer b (byte given b h)) ends-ret
 
   ends-is-busy : Ends given delays 0 false is-busy
-  unfolding is-busy busy_of
+  unfolding is-busy
   ends-is-busy = ends-bind _ (ends-status1 0 (lit< tt)) ends-ret
 
   ends-jedec-id : Ends given delays 0 (id_of 0) jedec-id
@@ -66,7 +66,7 @@ module _ (given : List ℕ) where
   ends-unique-id = ends-transfer 0 (zeros given 8)
 
   ends-enable : Ends given delays 0 tt write-enable
-  unfolding write-enable write_enabled_of
+  unfolding write-enable
   ends-enable = ends-then (ends-transfer 0 refl) (ends-bind _ (ends-status1 0x02 (lit< tt)) (ends-refuse _ _ refl))
 
   ends-write1 : (value : ℕ) → Ends given delays 100000 tt (write-status1 value)
@@ -79,12 +79,12 @@ module _ (given : List ℕ) where
 
   -- quad mode is off by both registers
   ends-quad-enabled : Ends given delays 0 false quad-enabled
-  unfolding quad-enabled quad_enabled1_of quad_enabled2_of
+  unfolding quad-enabled
   ends-quad-enabled = ends-bind _ (ends-status2 0 (lit< tt)) (ends-bind _ (ends-status1 0 (lit< tt)) ends-ret)
 
   -- the bit of register 2 does not take, that of register 1 does
   ends-enable-quad : Ends given delays 200000 tt enable-quad
-  unfolding enable-quad quad_enabled1_of quad_enabled2_of
+  unfolding enable-quad
   ends-enable-quad =
       ends-bind _ ends-quad-enabled
       (ends-bind _ (ends-status2 0 (lit< tt))
@@ -94,12 +94,12 @@ module _ (given : List ℕ) where
       (ends-then (ends-write1 _) (ends-bind _ (ends-status1 0x40 (lit< tt)) ends-ret))))))
 
   ends-disable-quad : Ends given delays 100000 tt disable-quad
-  unfolding disable-quad quad_enabled2_of
+  unfolding disable-quad
   ends-disable-quad = ends-bind _ (ends-status2 0x02 (lit< tt)) (ends-then (ends-write2 _) (ends-bind _ (ends-status2 0 (lit< tt)) ends-ret))
 
   -- both registers are protected
   ends-unprotect : Ends given delays 200000 (record { before = 0x04; after = 0 }) unprotect
-  unfolding unprotect unprotected1_of unprotected2_of
+  unfolding unprotect
   ends-unprotect =
       ends-bind _ (ends-status1 0x04 (lit< tt))
       (ends-bind _ (ends-status2 0x80 (lit< tt))
@@ -110,17 +110,17 @@ module _ (given : List ℕ) where
     unfolding read_transfer
     ends-take offset n v sink h = by flash.config.quad
       where
-        by : (q : QuadSetting) → Ends given delays 0 v (transfer (read_at q offset n sink))
-        by QuadSetting.Single = ends-transfer v h
-        by (QuadSetting.Quad q) = ends-transfer v h
+        by : (q : Option NorQuadConfig) → Ends given delays 0 v (transfer (read_at q offset n sink))
+        by None = ends-transfer v h
+        by (Some q) = ends-transfer v h
 
     ends-give : (offset from n : ℕ) → Ends given delays 0 0 (transfer (program_transfer flash offset from n))
     unfolding program_transfer
     ends-give offset from n = by flash.config.quad
       where
-        by : (q : QuadSetting) → Ends given delays 0 0 (transfer (program_at q offset from n))
-        by QuadSetting.Single = ends-transfer 0 refl
-        by (QuadSetting.Quad q) = ends-transfer 0 refl
+        by : (q : Option NorQuadConfig) → Ends given delays 0 0 (transfer (program_at q offset from n))
+        by None = ends-transfer 0 refl
+        by (Some q) = ends-transfer 0 refl
 
     -- ---- read
 
@@ -129,7 +129,7 @@ module _ (given : List ℕ) where
         ends-eq (omega arith)
         (ends-loop len _ _ (reading flash offset len) (reading-loop flash offset len) (chunk-turns len) (λ k d stop t. omega arith) (λ k d below t. (0, ends-take _ _ 0 _ (delivery given _ _))) k done h)
 
-    ends_read : (offset len : ℕ) → in_range flash.device.capacity offset len ≡ true → Ends given delays 0 tt (read flash offset len)
+    ends_read : (offset len : ℕ) → range_in_bounds flash.device.capacity offset len ≡ true → Ends given delays 0 tt (read flash offset len)
     unfolding read
     ends_read offset len r = ends-guard _ _ (ap not r) (ends-reading offset len len 0 (omega arith))
 
@@ -177,7 +177,7 @@ module _ (given : List ℕ) where
 
     -- ---- erase
 
-    ends-unit : (kind : EraseKind) (offset : ℕ) → in_range flash.device.capacity offset (unit_size flash.device kind) ≡ true → multiple_of offset (unit_size flash.device kind) ≡ true →
+    ends-unit : (kind : EraseKind) (offset : ℕ) → range_in_bounds flash.device.capacity offset (unit_size flash.device kind) ≡ true → multiple_of offset (unit_size flash.device kind) ≡ true →
         Ends given delays (unit_bound kind) tt (erase-unit flash kind offset)
     unfolding erase-unit
     ends-unit EraseKind.Sector offset r a =
@@ -219,17 +219,17 @@ module _ (given : List ℕ) where
 
   -- ---- construction, on the id 0
 
-  page-taken : (device : DeviceSetting) → page_taken device ≡ true → ltb 512 (device_at device (given_at device) (id_of 0)).page_size ≡ false
-  page-taken DeviceSetting.Detect h = le-ltb 512 (from_jedec (id_of 0)).page_size (device_bounds.detected_page (id_of 0))
-  page-taken (DeviceSetting.Given device) h = le-ltb 512 device.page_size (leb-true device.page_size 512 h)
+  page-taken : (device : Option NorDeviceInfo) → page_taken device ≡ true → ltb 512 (device_at device (given_at device) (id_of 0)).page_size ≡ false
+  page-taken None h = le-ltb 512 (from_jedec (id_of 0)).page_size (device_bounds.detected_page (id_of 0))
+  page-taken (Some device) h = le-ltb 512 device.page_size (leb-true device.page_size 512 h)
 
-  page-refused : (device : DeviceSetting) → page_taken device ≡ false → ltb 512 (device_at device (given_at device) (id_of 0)).page_size ≡ true
-  page-refused DeviceSetting.Detect h = cc
-  page-refused (DeviceSetting.Given device) h = lt-ltb 512 device.page_size (leb-false device.page_size 512 h)
+  page-refused : (device : Option NorDeviceInfo) → page_taken device ≡ false → ltb 512 (device_at device (given_at device) (id_of 0)).page_size ≡ true
+  page-refused None h = cc
+  page-refused (Some device) h = lt-ltb 512 device.page_size (leb-false device.page_size 512 h)
 
-  ends-quad-if : (q : QuadSetting) → Ends given delays (quad_bound q) tt (quad-if q)
-  ends-quad-if QuadSetting.Single = ends-ret
-  ends-quad-if (QuadSetting.Quad q) = ends-enable-quad
+  ends-quad-if : (q : Option NorQuadConfig) → Ends given delays (quad_bound q) tt (quad-if q)
+  ends-quad-if None = ends-ret
+  ends-quad-if (Some q) = ends-enable-quad
 
   ends-with-config : (config : SpiNorConfig) → page_taken config.device ≡ true → Ends given delays (construction_bound config) (known_as (fresh_setup config) 0) (with-config config)
   unfolding with-config device_for
@@ -268,7 +268,7 @@ ends flash (Call.Read offset) b given bounds s h c = (_, ends-then (ends_read gi
 ends flash (Call.Write offset) b given bounds s h c =
     let some = (device_bounds.accepted flash.device bounds).least_page in
     let p = write-passed flash _ offset (length given) h in
-    let r = in-range flash.device.capacity offset (length given) p.0 in
+    let r = range-told flash.device.capacity offset (length given) p.0 in
     (_, ends-eq (omega arith) (ends-then (ends-write given flash bounds some s offset (length given) refl r p.1 p.2) ends-ret))
 ends flash Call.Unprotect b given bounds s h c = (_, ends-bind _ (ends-unprotect given) ends-ret)
 ends flash (Call.Erase from to) b given bounds s h c =

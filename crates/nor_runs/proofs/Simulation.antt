@@ -1,4 +1,5 @@
 -- The driver's phases do what the Rust's calls do.
+use Rattle.spi_nor.specs.declared.config.NorQuadConfig.{NorQuadConfig}
 use Prim.Native.Nat.{ℕ, ◌+◌}
 use mathlib.Core.Bool.{Bool, true, not}
 use mathlib.Core.Path.{◌≡◌, refl, ap, sym, ◌∙◌, fun_ext}
@@ -6,7 +7,7 @@ use lib.Dec.{ltb, leb, eqb}
 use borrow.Author.Tests.{leb-true, leb-false, le-ltb, lt-ltb}
 use Rattle.qspi.specs.Transfer.{command_only}
 use Rattle.qspi.specs.declared.transfer.Transfer.{Transfer}
-use Rattle.std.specs.Prelude.{if◌then◌else◌}
+use Rattle.std.specs.Prelude.{if◌then◌else◌, Option, Some, None}
 use Rattle.spi_flash.specs.Prog.{Prog, ret, fail, ask, ◌>>=◌, ◌>>◌, refuse, transfer}
 use Rattle.spi_flash.specs.Wait.{first_wait, next_wait}
 use Rattle.spi_flash.specs.WaitLaw.{waiting, prompt_wait}
@@ -20,8 +21,11 @@ use Rattle.flash_runs.proofs.Looking.{looked, no_wrap}
 use Rattle.spi_nor.specs.Opcode.{timings_of}
 use Rattle.spi_nor.specs.Status.{busy_of, write_enabled_of, quad_enabled1_of, quad_enabled2_of, with_quad1_of, with_quad2_of, without_quad1_of, without_quad2_of, unprotected1_of, unprotected2_of}
 use Rattle.spi_nor.specs.Command.{write_enable_command, read_status1_command, read_status2_command, read_id_command, read_unique_id_command}
-use Rattle.nor_phases.specs.Transfer.{number_transfer, place_of, chunk_of, page_of, task_transfer, task_operation, in_range, multiple_of, unit_size, step_kind, after_unit}
-use Rattle.nor_next.specs.Next.{byte_of, after_phase, next_of}
+use Rattle.nor_phases.specs.Transfer.{place_of, chunk_of, page_of, task_transfer, task_operation, multiple_of, unit_size, step_kind, after_unit}
+use Rattle.qspi.specs.Bytes.{byte_of}
+use Rattle.nor_next.specs.Next.{after_phase, next_of}
+use Rattle.spi_flash.specs.Range.{range_in_bounds, span}
+use Rattle.spi_flash.specs.Number.{number_transfer}
 use Rattle.nor_steps.specs.Register.{id_of, known_as, built_then, identified_then}
 use Rattle.nor_pages.specs.Read.{read_from}
 use Rattle.nor_pages.specs.Write.{program_from, verify_then, verified_then}
@@ -35,7 +39,6 @@ use Rattle.spi_nor.specs.Config.{in_bounds_of}
 use Rattle.spi_nor.proofs.WaitTable.{wait-table}
 use Rattle.spi_nor.proofs.DeviceBounds.{device_bounds}
 use Rattle.nor_runs.proofs.Loops.{reading-loop, writing-loop, erasing-loop}
-use Rattle.spi_nor.specs.declared.config.QuadSetting.{QuadSetting}
 use Rattle.spi_nor.specs.declared.config.SpiNorConfig.{SpiNorConfig}
 use Rattle.nor_phases.specs.declared.phase.EraseKind.{EraseKind}
 use Rattle.nor_phases.specs.declared.phase.Phase.{Phase}
@@ -115,9 +118,9 @@ context s (Task.DisableQuad2 status2) p = (p >> (read-status2 >>= cleared2)) >> 
 context s (Task.DisableQuad1 status1) p = (p >> (read-status1 >>= cleared1)) >> DONE s
 context s (Task.Unprotect1 before status2) p = (p >> second before status2) >>= told s
 context s (Task.Unprotect2 before status2) p = (p >> reread before) >>= told s
-context s (Task.PageProgram offset len done) p =
-    ((p >> (read_back s (place_of offset done) (page_of s.device len done) done >>= verified))
-    >> writing s offset len (done + page_of s.device len done))
+context s (Task.PageProgram at) p =
+    ((p >> (read_back s (place_of at.offset at.done) (page_of s.device at.len at.done) at.done >>= verified))
+    >> writing s at.offset at.len (at.done + page_of s.device at.len at.done))
     >> DONE s
 context s (Task.Erase kind address end) p = (p >> erasing s (after_unit s.device kind address) end) >> DONE s
 
@@ -167,8 +170,8 @@ meaning_at s Phase.UnprotectRead1 v =
 meaning_at s (Phase.UnprotectRead2 before) v =
     ((if not (eqb (unprotected1_of before) before) then write-status1 (unprotected1_of before) else ret tt) >> second before (byte_of v)) >>= told s
 meaning_at s (Phase.UnprotectAfter before) v = told s (record { before = before; after = byte_of v })
-meaning_at s (Phase.Reading offset len done) v = reading s offset len (done + chunk_of len done) >> DONE s
-meaning_at s (Phase.Verifying offset len done) v = (verified v >> writing s offset len (done + page_of s.device len done)) >> DONE s
+meaning_at s (Phase.Reading p) v = reading s p.offset p.len (p.done + chunk_of p.len p.done) >> DONE s
+meaning_at s (Phase.Verifying p) v = (verified v >> writing s p.offset p.len (p.done + page_of s.device p.len p.done)) >> DONE s
 meaning_at s (Phase.Writing task WriteStep.Enable waited) v = context s task ((read-status1 >>= latch) >> (transfer (task_transfer s task) >> wait_of task))
 meaning_at s (Phase.Writing task WriteStep.Latch waited) v = context s task (latch (byte_of v) >> (transfer (task_transfer s task) >> wait_of task))
 meaning_at s (Phase.Writing task WriteStep.Command waited) v = context s task (wait_of task)
@@ -188,7 +191,7 @@ under s (Task.DisableQuad2 x) t k = refl
 under s (Task.DisableQuad1 x) t k = refl
 under s (Task.Unprotect1 x y) t k = refl
 under s (Task.Unprotect2 x y) t k = refl
-under s (Task.PageProgram offset len done) t k = refl
+under s (Task.PageProgram p) t k = refl
 under s (Task.Erase kind address end) t k = refl
 
 through : (s : Setup) (task : Task) (e : FlashError) → context s task (fail e) ≡ fail e
@@ -199,7 +202,7 @@ through s (Task.DisableQuad2 x) e = refl
 through s (Task.DisableQuad1 x) e = refl
 through s (Task.Unprotect1 x y) e = refl
 through s (Task.Unprotect2 x y) e = refl
-through s (Task.PageProgram offset len done) e = refl
+through s (Task.PageProgram p) e = refl
 through s (Task.Erase kind address end) e = refl
 
 -- a task begins with its write enable
@@ -303,10 +306,10 @@ reads_on s offset len done = rw (reading-loop s offset len done) (by_cases (ltb 
 module _ (s : Setup) (valid : in_bounds_of s.device ≡ true) where
   -- page_program is a task, and its read-back
   page-task : (offset len done : ℕ) → page-program s (place_of offset done) done (page_of s.device len done)
-      ≡ sends s (Task.PageProgram offset len done) >> (read_back s (place_of offset done) (page_of s.device len done) done >>= verified)
+      ≡ sends s (Task.PageProgram (span offset len done)) >> (read_back s (place_of offset done) (page_of s.device len done) done >>= verified)
   unfolding page-program verified task_transfer task_operation
   page-task offset len done =
-      let task = Task.PageProgram offset len done in
+      let task = Task.PageProgram (span offset len done) in
       sym (then-assoc write-enable (transfer (task_transfer s task) >> wait_of task) (read_back s (place_of offset done) (page_of s.device len done) done >>= verified)
       ∙ ap (λ p. write-enable >> p) (then-assoc (transfer (task_transfer s task)) (wait_of task) (read_back s (place_of offset done) (page_of s.device len done) done >>= verified)))
 
@@ -314,16 +317,16 @@ module _ (s : Setup) (valid : in_bounds_of s.device ≡ true) where
   unfolding program_from context
   writes-on offset len done =
       rw (writing-loop s (device_bounds.accepted s.device valid).least_page offset len done, page-task offset len done)
-      (by_cases (ltb done len) (λ e. rw e (enables s (Task.PageProgram offset len done))) (λ e. rw e (finishes s)))
+      (by_cases (ltb done len) (λ e. rw e (enables s (Task.PageProgram (span offset len done)))) (λ e. rw e (finishes s)))
 
   verifies : (offset len done : ℕ) →
       ((read_back s (place_of offset done) (page_of s.device len done) done >>= verified) >> writing s offset len (done + page_of s.device len done)) >> DONE s
       ≡ tree meaning (decide (verify_then s offset len done))
   unfolding verify_then read_back refuse meaning_at ◌>>=◌ ◌>>◌
   verifies offset len done =
-      by_cases (in_range s.device.capacity (place_of offset done) (page_of s.device len done)) (λ e. rw e) (λ e. rw e)
+      by_cases (range_in_bounds s.device.capacity (place_of offset done) (page_of s.device len done)) (λ e. rw e) (λ e. rw e)
 
-  verified-page : (offset len done v : ℕ) → meaning_at s (Phase.Verifying offset len done) v ≡ tree meaning (decide (verified_then s offset len done v))
+  verified-page : (offset len done v : ℕ) → meaning_at s (Phase.Verifying (span offset len done)) v ≡ tree meaning (decide (verified_then s offset len done v))
   unfolding meaning_at verified_then verified refuse ◌>>=◌ ◌>>◌
   verified-page offset len done v =
       by_cases (eqb v 0) (λ e. rw e) (λ e. rw e (writes-on offset len (done + page_of s.device len done)))
@@ -332,7 +335,7 @@ module _ (s : Setup) (valid : in_bounds_of s.device ≡ true) where
       ≡ tree meaning (decide (erase_unit s kind address end))
   unfolding erase_unit erase-unit refuse context task_transfer task_operation ◌>>=◌ ◌>>◌
   erases-unit kind address end =
-      by_cases (in_range s.device.capacity address (unit_size s.device kind))
+      by_cases (range_in_bounds s.device.capacity address (unit_size s.device kind))
       (λ e. by_cases (multiple_of address (unit_size s.device kind)) (λ d. rw (e, d) (enables s (Task.Erase kind address end))) (λ d. rw (e, d)))
       (λ e. rw e)
 
@@ -351,7 +354,7 @@ module _ (s : Setup) (valid : in_bounds_of s.device ≡ true) where
   resumes (Task.DisableQuad1 x) = refl
   resumes (Task.Unprotect1 before status2) = unprotects2 s before status2
   resumes (Task.Unprotect2 before status2) = refl
-  resumes (Task.PageProgram offset len done) = verifies offset len done
+  resumes (Task.PageProgram p) = verifies p.offset p.len p.done
   resumes (Task.Erase kind address end) = erases-on (after_unit s.device kind address) end
 
   looks : (task : Task) (waited v : ℕ) → meaning_at s (Phase.Writing task WriteStep.Look waited) v ≡ tree meaning (decide (after_phase s (Phase.Writing task WriteStep.Look waited) v))
@@ -388,9 +391,9 @@ single-built : (s : Setup) → (ret (tt {0}) >> ret s) >>= DONE ≡ DONE s
 unfolding ◌>>=◌ ◌>>◌
 single-built s = refl
 
-quad-built : (quad : QuadSetting) (s : Setup) → (quad-if quad >> ret s) >>= DONE ≡ tree meaning (decide (built_then quad s))
-quad-built QuadSetting.Single s = single-built s
-quad-built (QuadSetting.Quad q) s = bind-then enable-quad s ∙ quad-starts s
+quad-built : (quad : Option NorQuadConfig) (s : Setup) → (quad-if quad >> ret s) >>= DONE ≡ tree meaning (decide (built_then quad s))
+quad-built None s = single-built s
+quad-built (Some q) s = bind-then enable-quad s ∙ quad-starts s
 
 identifies : (s : Setup) (v : ℕ) → meaning_at s Phase.Identify v ≡ tree meaning (decide (identified_then s v))
 unfolding meaning_at identified_then refuse ◌>>=◌ ◌>>◌
@@ -426,8 +429,8 @@ follows s valid Phase.DisableVerify1 v = disable-verify1 s v
 follows s valid Phase.UnprotectRead1 v = refl
 follows s valid (Phase.UnprotectRead2 before) v = unprotects1 s before v
 follows s valid (Phase.UnprotectAfter before) v = refl
-follows s valid (Phase.Reading offset len done) v = reads_on s offset len (done + chunk_of len done)
-follows s valid (Phase.Verifying offset len done) v = verified-page s valid offset len done v
+follows s valid (Phase.Reading p) v = reads_on s p.offset p.len (p.done + chunk_of p.len p.done)
+follows s valid (Phase.Verifying p) v = verified-page s valid p.offset p.len p.done v
 follows s valid (Phase.Writing task WriteStep.Enable waited) v = under s task _ _
 follows s valid (Phase.Writing task WriteStep.Latch waited) v = latches s task waited v
 follows s valid (Phase.Writing task WriteStep.Command waited) v = sent s valid task waited v

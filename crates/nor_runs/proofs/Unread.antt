@@ -1,4 +1,6 @@
 -- The calls that read nothing into the caller's buffer, and the one that does.
+use Rattle.std.specs.Prelude.{Option, Some, None}
+use Rattle.spi_nor.specs.declared.config.NorQuadConfig.{NorQuadConfig}
 use Prim.Native.Nat.{ℕ, zero, suc, ◌+◌, ◌-◌, ◌≤◌}
 use native.Mathlib.Omega.{arith}
 use mathlib.Core.Bool.{Bool, true, false}
@@ -19,8 +21,8 @@ use Rattle.spi_flash.proofs.Unread.{buffer_reads, unread-wait}
 use Rattle.spi_nor.specs.Opcode.{timings_of}
 use Rattle.spi_nor.specs.Command.{read_status1_command}
 use Rattle.spi_nor.specs.declared.config.NorDeviceInfo.{NorDeviceInfo}
-use Rattle.spi_nor.specs.declared.config.QuadSetting.{QuadSetting}
-use Rattle.nor_phases.specs.Transfer.{place_of, chunk_of, read_at, read_transfer, in_range, step_kind, after_unit}
+use Rattle.spi_flash.specs.Range.{range_in_bounds}
+use Rattle.nor_phases.specs.Transfer.{place_of, chunk_of, read_at, read_transfer, step_kind, after_unit}
 use Rattle.nor_phases.proofs.Pieces.{chunk-within}
 use Rattle.nor_answers.specs.declared.answer.Answer.{Answer}
 use Rattle.nor_phases.specs.declared.setup.Setup.{Setup}
@@ -48,9 +50,9 @@ no-sum device (suc n) address to = at (ltb address to) (no-sum device n (after_u
     at true h = omega arith
     at false h = omega arith
 
-no-construction : (taken : Bool) (q : QuadSetting) → 0 + 0 + pick taken (quad_weight read_figures q) 0 ≤ 0
-no-construction true QuadSetting.Single = omega arith
-no-construction true (QuadSetting.Quad q) = omega arith
+no-construction : (taken : Bool) (q : Option NorQuadConfig) → 0 + 0 + pick taken (quad_weight read_figures q) 0 ≤ 0
+no-construction true None = omega arith
+no-construction true (Some q) = omega arith
 no-construction false q = omega arith
 
 unread : (flash : Setup) (call : Call) (b d : ℕ) → Bounds nor_driver flash call b d → weight_of read_figures flash call b d ≤ 0 → Bounded buffer_reads 0 (program_of flash call b d)
@@ -62,11 +64,11 @@ module _ (flash : Setup) (offset len : ℕ) (left : Left) where
   abbrev Reads : ℕ → Type 0
   Reads done = Fills (λ command. true) len done (reading flash offset len done >> ret left)
 
-  fills-piece : (q : QuadSetting) (done : ℕ) → done + chunk_of len done ≤ len → Reads (done + chunk_of len done) →
+  fills-piece : (q : Option NorQuadConfig) (done : ℕ) → done + chunk_of len done ≤ len → Reads (done + chunk_of len done) →
       Fills (λ command. true) len done ((transfer (read_at q (place_of offset done) (chunk_of len done) (Sink.Buffer done)) >> reading flash offset len (done + chunk_of len done)) >> ret left)
   unfolding ◌>>=◌ ◌>>◌
-  fills-piece QuadSetting.Single done room later = (refl, refl, room, λ v. later)
-  fills-piece (QuadSetting.Quad q) done room later = (refl, refl, room, λ v. later)
+  fills-piece None done room later = (refl, refl, room, λ v. later)
+  fills-piece (Some q) done room later = (refl, refl, room, λ v. later)
 
   finished : (done : ℕ) → Fills (λ command. true) len done (ret (tt {0}) >> ret left)
   unfolding ◌>>=◌ ◌>>◌
@@ -86,7 +88,7 @@ module _ (flash : Setup) (offset len : ℕ) (left : Left) where
 
   fills-read : Fills (λ command. true) len 0 (read flash offset len >> ret left)
   unfolding read refuse ◌>>=◌ ◌>>◌
-  fills-read = by_cases (in_range flash.device.capacity offset len) (λ e. rw e (fills-reading len 0 (omega arith))) (λ e. rw e tt)
+  fills-read = by_cases (range_in_bounds flash.device.capacity offset len) (λ e. rw e (fills-reading len 0 (omega arith))) (λ e. rw e tt)
 
 -- ---- every call
 

@@ -1,4 +1,6 @@
 -- Upper bounds on the Rust's programs, by any weight of the transfers.
+use Rattle.spi_nor.specs.declared.config.NorQuadConfig.{NorQuadConfig}
+use Rattle.spi_nor.specs.declared.config.NorDeviceInfo.{NorDeviceInfo}
 use Prim.Native.Nat.{ℕ, zero, suc, ◌+◌, ◌-◌, ◌*◌, ◌/◌, ◌%◌, ◌≤◌, ◌<◌}
 use native.Mathlib.Omega.{arith}
 use native.Mathlib.Nat.{div-add-mod', mod-lt}
@@ -11,14 +13,15 @@ use Rattle.qspi.specs.declared.command.Command.{Command}
 use Rattle.qspi.specs.declared.transfer.Sink.{Sink}
 use Rattle.qspi.specs.declared.transfer.Body.{Body}
 use Rattle.qspi.specs.declared.transfer.Transfer.{Transfer}
-use Rattle.std.specs.Prelude.{if◌then◌else◌}
+use Rattle.std.specs.Prelude.{if◌then◌else◌, Option, Some, None}
 use Rattle.spi_flash.specs.Prog.{ret, ◌>>◌, transfer}
 use Rattle.spi_flash.specs.Path.{Bounded}
 use Rattle.spi_flash.proofs.Laws.{bounded-more, bounded-ret, bounded-fail, bounded-bind, bounded-then, bounded-refuse, bounded-if, bounded-transfer, bounded-guard, answered, ended}
 use Rattle.spi_flash.proofs.Loops.{bounded-loop}
 use Rattle.spi_nor.specs.Status.{quad_enabled1_of, quad_enabled2_of, unprotected1_of, unprotected2_of}
 use Rattle.spi_nor.specs.Opcode.{MAX-BULK-LEN}
-use Rattle.nor_phases.specs.Transfer.{number_transfer, read_at, read_transfer, program_at, program_transfer, erase_transfer, erase_operation, multiple_of, step_kind, after_unit}
+use Rattle.spi_flash.specs.Number.{number_transfer}
+use Rattle.nor_phases.specs.Transfer.{read_at, read_transfer, program_at, program_transfer, erase_transfer, erase_operation, multiple_of, step_kind, after_unit}
 use Rattle.flash_runs.specs.Weight.{Figures}
 use Rattle.flash_runs.proofs.Supplies.{Bounds}
 use Rattle.flash_runs.proofs.Weighing.{sunk, Weighs}
@@ -31,9 +34,7 @@ use Rattle.nor_runs.specs.Rust.{read-status1, read-status2, is-busy, wait-ready,
 use Rattle.nor_runs.specs.Bound.{page_taken, erase_sum, pieces, task, unit, paged, enabling_quad, quad_weight, constructing, weight_of}
 use Rattle.nor_runs.specs.Program.{program_of}
 use Rattle.nor_runs.specs.Run.{nor_driver}
-use Rattle.spi_nor.specs.declared.config.DeviceSetting.{DeviceSetting}
 use Rattle.spi_nor.specs.declared.config.NorJedecId.{NorJedecId}
-use Rattle.spi_nor.specs.declared.config.QuadSetting.{QuadSetting}
 use Rattle.spi_nor.specs.declared.config.SpiNorConfig.{SpiNorConfig}
 use Rattle.nor_phases.specs.declared.phase.EraseKind.{EraseKind}
 use Rattle.nor_phases.specs.declared.setup.Setup.{Setup}
@@ -42,13 +43,13 @@ use Rattle.nor_runs.proofs.Loops.{reading-loop, writing-loop, chunk-turns, page-
 
 module _ {w : Transfer → ℕ} {x : Figures Operation} (figures : Weighs w x wait-ready) where
   -- single-line or quad
-  taken : (q : QuadSetting) (offset n : ℕ) (sink : Sink) → w (read_at q offset n sink) ≤ sunk x sink
-  taken QuadSetting.Single offset n sink = figures.framed _ _
-  taken (QuadSetting.Quad q) offset n sink = figures.framed _ _
+  taken : (q : Option NorQuadConfig) (offset n : ℕ) (sink : Sink) → w (read_at q offset n sink) ≤ sunk x sink
+  taken None offset n sink = figures.framed _ _
+  taken (Some q) offset n sink = figures.framed _ _
 
-  given : (q : QuadSetting) (offset from n : ℕ) → w (program_at q offset from n) ≤ x.moved
-  given QuadSetting.Single offset from n = figures.framed _ _
-  given (QuadSetting.Quad q) offset from n = figures.framed _ _
+  given : (q : Option NorQuadConfig) (offset from n : ℕ) → w (program_at q offset from n) ≤ x.moved
+  given None offset from n = figures.framed _ _
+  given (Some q) offset from n = figures.framed _ _
 
   bounded-number : (c : Command) (n : ℕ) → Bounded w x.moved (transfer (number_transfer c n))
   bounded-number c n = bounded-more (figures.framed c (Body.Read n Sink.Number)) bounded-transfer
@@ -223,9 +224,9 @@ module _ {w : Transfer → ℕ} {x : Figures Operation} (figures : Weighs w x wa
 
   -- ---- construction: quad mode is enabled only where the page is taken
 
-  bounded-quad-if : (q : QuadSetting) → Bounded w (quad_weight x q) (quad-if q)
-  bounded-quad-if QuadSetting.Single = bounded-ret
-  bounded-quad-if (QuadSetting.Quad q) = bounded-enable-quad
+  bounded-quad-if : (q : Option NorQuadConfig) → Bounded w (quad_weight x q) (quad-if q)
+  bounded-quad-if None = bounded-ret
+  bounded-quad-if (Some q) = bounded-enable-quad
 
   bounded-with-config : (config : SpiNorConfig) → Bounded w (constructing x config) (with-config config)
   unfolding with-config device_for
@@ -236,9 +237,9 @@ module _ {w : Transfer → ℕ} {x : Figures Operation} (figures : Weighs w x wa
       (λ v. bounded-guard _ _
       (λ e. rw (taken config.device (id_of v) e) (bounded-more (omega arith) (bounded-then {c = 0} (bounded-quad-if config.quad) bounded-ret))))))
     where
-      taken : (device : DeviceSetting) (id : NorJedecId) → ltb 512 (device_at device (given_at device) id).page_size ≡ false → page_taken device ≡ true
-      taken DeviceSetting.Detect id e = refl
-      taken (DeviceSetting.Given device) id e = le-leb device.page_size 512 (ltb-false 512 device.page_size e)
+      taken : (device : Option NorDeviceInfo) (id : NorJedecId) → ltb 512 (device_at device (given_at device) id).page_size ≡ false → page_taken device ≡ true
+      taken None id e = refl
+      taken (Some device) id e = le-leb device.page_size 512 (ltb-false 512 device.page_size e)
 
   -- ---- every call
 

@@ -1,14 +1,13 @@
 -- The longest delay that a call asks (document 01: bill), and the most actions that it gives out.
-use Rattle.std.specs.Prelude.{ℕ, zero, suc, ◌+◌, ◌*◌, ◌-◌, ◌/◌, Bool, true, ltb, leb}
+use Rattle.spi_nor.specs.declared.config.NorQuadConfig.{NorQuadConfig}
+use Rattle.std.specs.Prelude.{ℕ, zero, suc, ◌+◌, ◌*◌, ◌-◌, ◌/◌, Bool, true, ltb, leb, Option, Some, None}
 use Rattle.qspi.specs.Choice.{pick}
 use Rattle.spi_nor.specs.Config.{single_config}
 use Rattle.spi_nor.specs.Opcode.{MAX-BULK-LEN}
 use Rattle.nor_phases.specs.Transfer.{erase_operation, step_kind, after_unit}
 use Rattle.flash_runs.specs.Weight.{Figures, action_figures}
 use Rattle.spi_nor.specs.WaitTable.{looks_of}
-use Rattle.spi_nor.specs.declared.config.DeviceSetting.{DeviceSetting}
 use Rattle.spi_nor.specs.declared.config.NorDeviceInfo.{NorDeviceInfo}
-use Rattle.spi_nor.specs.declared.config.QuadSetting.{QuadSetting}
 use Rattle.spi_nor.specs.declared.config.SpiNorConfig.{SpiNorConfig}
 use Rattle.nor_phases.specs.declared.phase.EraseKind.{EraseKind}
 use Rattle.nor_phases.specs.declared.call.Call.{Call}
@@ -16,13 +15,13 @@ use Rattle.nor_phases.specs.declared.setup.Setup.{Setup}
 use Rattle.spi_nor.specs.declared.opcode.Operation.{Operation}
 
 -- "NOR construction 200,000 with quad and a page of at most 512, else 0": a detected device has a page of 256
-abbrev pub page_taken : DeviceSetting → Bool
-page_taken DeviceSetting.Detect = true
-page_taken (DeviceSetting.Given device) = leb device.page_size 512
+abbrev pub page_taken : Option NorDeviceInfo → Bool
+page_taken None = true
+page_taken (Some device) = leb device.page_size 512
 
-abbrev pub quad_bound : QuadSetting → ℕ
-quad_bound QuadSetting.Single = 0
-quad_bound (QuadSetting.Quad q) = 200000
+abbrev pub quad_bound : Option NorQuadConfig → ℕ
+quad_bound None = 0
+quad_bound (Some q) = 200000
 
 abbrev pub construction_bound : SpiNorConfig → ℕ
 construction_bound config = pick (page_taken config.device) (quad_bound config.quad) 0
@@ -85,9 +84,9 @@ module _ (x : Figures Operation) where
   abbrev pub enabling_quad : ℕ
   enabling_quad = 6 * x.moved + 2 * task Operation.StatusWrite
 
-  abbrev pub quad_weight : QuadSetting → ℕ
-  quad_weight QuadSetting.Single = 0
-  quad_weight (QuadSetting.Quad q) = enabling_quad
+  abbrev pub quad_weight : Option NorQuadConfig → ℕ
+  quad_weight None = 0
+  quad_weight (Some q) = enabling_quad
 
   abbrev pub constructing : SpiNorConfig → ℕ
   constructing config = x.raise + x.moved + pick (page_taken config.device) (quad_weight config.quad) 0

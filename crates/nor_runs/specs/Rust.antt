@@ -2,7 +2,8 @@
 -- others stands behind them (with_config is last). config, device, id and free are in `Program.antt`.
 -- `transfer` is one select frame of the Rust (`command`, `command_then_read`, or a quad call between cs_low and cs_high) or one
 -- delay; a bus error in it ends the call, as `?` does. Their bus calls are in `OnBus.antt` of spi_flash.
-use Rattle.std.specs.Prelude.{ℕ, zero, suc, ◌+◌, ◌-◌, Bool, true, not, ltb, eqb, if◌then◌else◌}
+use Rattle.spi_nor.specs.declared.config.NorQuadConfig.{NorQuadConfig}
+use Rattle.std.specs.Prelude.{ℕ, zero, suc, ◌+◌, ◌-◌, Bool, true, not, ltb, eqb, if◌then◌else◌, Option, Some, None}
 use Rattle.qspi.specs.Transfer.{command_only}
 use Rattle.qspi.specs.declared.transfer.Sink.{Sink}
 use Rattle.qspi.specs.declared.transfer.Transfer.{Transfer}
@@ -13,12 +14,13 @@ use Rattle.spi_nor.specs.Opcode.{timings_of}
 use Rattle.spi_nor.specs.Status.{busy_of, write_enabled_of, quad_enabled1_of, quad_enabled2_of, with_quad1_of, with_quad2_of, without_quad1_of, without_quad2_of, unprotected1_of, unprotected2_of}
 use Rattle.spi_nor.specs.Config.{single_config}
 use Rattle.spi_nor.specs.Command.{write_enable_command, read_status1_command, read_status2_command, write_status1_command, write_status2_command, read_id_command, read_unique_id_command}
-use Rattle.nor_phases.specs.Transfer.{number_transfer, place_of, chunk_of, page_of, read_transfer, program_transfer, erase_transfer, erase_operation, in_range, multiple_of, unit_size, step_kind, after_unit}
+use Rattle.spi_flash.specs.Range.{range_in_bounds}
+use Rattle.spi_flash.specs.Number.{number_transfer}
+use Rattle.nor_phases.specs.Transfer.{place_of, chunk_of, page_of, read_transfer, program_transfer, erase_transfer, erase_operation, multiple_of, unit_size, step_kind, after_unit}
 use Rattle.nor_steps.specs.Register.{MAX-VERIFY-PAGE-SIZE, id_of, known_as}
-use Rattle.nor_next.specs.Next.{byte_of}
+use Rattle.qspi.specs.Bytes.{byte_of}
 use Rattle.nor_driver.specs.Call.{fresh_setup}
 use Rattle.spi_nor.specs.declared.config.NorJedecId.{NorJedecId}
-use Rattle.spi_nor.specs.declared.config.QuadSetting.{QuadSetting}
 use Rattle.spi_nor.specs.declared.config.SpiNorConfig.{SpiNorConfig}
 use Rattle.nor_phases.specs.declared.phase.EraseKind.{EraseKind}
 use Rattle.nor_phases.specs.declared.setup.Setup.{Setup}
@@ -138,13 +140,13 @@ module _ (flash : Setup) where
 
   unfoldable pub read : ℕ → ℕ → Prog Nothing
   read offset len = do
-    refuse (not (in_range flash.device.capacity offset len)) FlashError.OutOfBounds
+    refuse (not (range_in_bounds flash.device.capacity offset len)) FlashError.OutOfBounds
     reading offset len 0
 
   -- `self.read` of a page, whose bytes are compared with the caller's data: a page is at most one piece
   unfoldable pub read_back : ℕ → ℕ → ℕ → Prog ℕ
   read_back offset len from = do
-    refuse (not (in_range flash.device.capacity offset len)) FlashError.OutOfBounds
+    refuse (not (range_in_bounds flash.device.capacity offset len)) FlashError.OutOfBounds
     transfer (read_transfer flash offset len (Sink.Compare from))
 
   -- fn page_program, of the n bytes of data from a place
@@ -171,7 +173,7 @@ module _ (flash : Setup) where
 
   unfoldable pub write : ℕ → ℕ → Prog Nothing
   write offset len = do
-    refuse (not (in_range flash.device.capacity offset len)) FlashError.OutOfBounds
+    refuse (not (range_in_bounds flash.device.capacity offset len)) FlashError.OutOfBounds
     refuse (not (multiple_of offset flash.device.page_size)) FlashError.NotAligned
     refuse (not (multiple_of len flash.device.page_size)) FlashError.NotAligned
     writing offset len 0
@@ -179,7 +181,7 @@ module _ (flash : Setup) where
   -- fn erase_sector and fn erase_block
   unfoldable pub erase-unit : EraseKind → ℕ → Prog Nothing
   erase-unit kind offset = do
-    refuse (not (in_range flash.device.capacity offset (unit_size flash.device kind))) FlashError.OutOfBounds
+    refuse (not (range_in_bounds flash.device.capacity offset (unit_size flash.device kind))) FlashError.OutOfBounds
     refuse (not (multiple_of offset (unit_size flash.device kind))) FlashError.NotAligned
     write-enable
     transfer (erase_transfer kind offset)
@@ -227,9 +229,9 @@ unprotect = do
   ret (record { before = before; after = after })
 
 -- fn with_config; fn new is with_config of SpiNorConfig::single()
-abbrev pub quad-if : QuadSetting → Prog Nothing
-quad-if QuadSetting.Single = ret tt
-quad-if (QuadSetting.Quad q) = enable-quad
+abbrev pub quad-if : Option NorQuadConfig → Prog Nothing
+quad-if None = ret tt
+quad-if (Some q) = enable-quad
 
 unfoldable pub with-config : SpiNorConfig → Prog Setup
 with-config config = do

@@ -1,26 +1,17 @@
 -- The steps that calls are made of (nor/driver.rs).
-use Rattle.std.specs.Prelude.{Bool}
+use Rattle.std.specs.Prelude.{Bool, Err}
 use Rattle.qspi.specs.Transfer.{command_only}
 use Rattle.qspi.specs.Choice.{pick}
-use Rattle.qspi.specs.declared.transfer.Transfer.{Transfer}
 use Rattle.spi_flash.specs.declared.error.FlashError.{FlashError}
 use Rattle.spi_nor.specs.Command.{write_enable_command, read_status1_command, read_status2_command, read_id_command, read_unique_id_command}
-use Rattle.nor_phases.specs.Transfer.{number_transfer}
+use Rattle.spi_flash.specs.Number.{number_transfer}
 use Rattle.nor_phases.specs.declared.phase.Phase.{Phase}
 use Rattle.nor_phases.specs.declared.phase.Task.{Task}
 use Rattle.nor_phases.specs.declared.phase.WriteStep.{WriteStep}
 use Rattle.nor_answers.specs.declared.answer.Answer.{Answer}
 use Rattle.nor_phases.specs.declared.setup.Setup.{Setup}
-use Rattle.nor_steps.specs.declared.then.Next.{Next}
-use Rattle.nor_steps.specs.declared.then.Then.{Then}
-
--- a transfer, and where the call stands while it is out
-abbrev pub go_to : Setup → Transfer → Phase → Then
-go_to setup transfer phase = Then.On setup (Next.Go transfer phase)
-
--- `Ok(..)`
-abbrev pub end_with : Setup → Answer → Then
-end_with setup answer = Then.On setup (Next.End answer)
+use Rattle.nor_steps.specs.Then.{Then}
+pub use Rattle.machine.specs.Then.{go_to, end_with}
 
 -- read_status1
 abbrev pub read1_then : Setup → Phase → Then
@@ -48,4 +39,4 @@ done_if test setup other = pick test (end_with setup Answer.Done) other
 
 -- enable_quad, disable_quad: the bit read back, or `Err(FlashError::NotSupported)`
 abbrev pub supported_if : Bool → Setup → Then
-supported_if test setup = pick test (end_with setup Answer.Done) (Then.Fail FlashError.NotSupported)
+supported_if test setup = pick test (end_with setup Answer.Done) (Err FlashError.NotSupported)

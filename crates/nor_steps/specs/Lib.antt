@@ -1,3 +1,4 @@
+pub mod Then
 pub mod Go
 pub mod Register
 pub mod Protection

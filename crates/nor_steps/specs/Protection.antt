@@ -5,7 +5,7 @@ use Rattle.spi_nor.specs.Status.{unprotected1_of, unprotected2_of}
 use Rattle.nor_phases.specs.declared.phase.Phase.{Phase}
 use Rattle.nor_phases.specs.declared.phase.Task.{Task}
 use Rattle.nor_phases.specs.declared.setup.Setup.{Setup}
-use Rattle.nor_steps.specs.declared.then.Then.{Then}
+use Rattle.nor_steps.specs.Then.{Then}
 use Rattle.nor_steps.specs.Go.{read1_then, enabled_then}
 
 -- unprotect: `if wanted_sr2 != sr2`

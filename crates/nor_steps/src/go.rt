@@ -1,43 +1,23 @@
 // The steps that calls are made of.
 ghost use Rattle.std.specs.Prelude.{◌≡◌};
-ghost use Rattle.nor_steps.specs.Go.{go_to, end_with, read1_then, read2_then, read_id_then, read_unique_id_then, enabled_then, done_if, supported_if};
+ghost use Rattle.nor_steps.specs.Go.{read1_then, read2_then, read_id_then, read_unique_id_then, enabled_then, done_if, supported_if};
 
-use crate::then::{Next, Then};
+use crate::then::Then;
+pub use machine::then::{end, go};
 use nor_answers::answer::Answer;
 use nor_phases::phase::{Phase, Task, WriteStep};
 use nor_phases::setup::Setup;
-use nor_phases::transfer;
 use qspi::transfer::Transfer;
 use spi_flash::error::FlashError;
+use spi_flash::number;
 use spi_nor::command;
-
-pub fn go(setup: Setup, transfer: Transfer, phase: Phase) -> Then
-    ensures { result ≡ go_to setup transfer phase }
-{
-    Then::On {
-        setup: setup,
-        next: Next::Go {
-            transfer: transfer,
-            phase: phase,
-        },
-    }
-}
-
-pub fn end(setup: Setup, answer: Answer) -> Then
-    ensures { result ≡ end_with setup answer }
-{
-    Then::On {
-        setup: setup,
-        next: Next::End(answer),
-    }
-}
 
 pub fn read1(setup: Setup, phase: Phase) -> Then
     ensures { result ≡ read1_then setup phase }
 {
     go(
         setup,
-        transfer::number_transfer(command::read_status1_command(), 1),
+        number::number_transfer(command::read_status1_command(), 1),
         phase,
     )
 }
@@ -47,7 +27,7 @@ pub fn read2(setup: Setup, phase: Phase) -> Then
 {
     go(
         setup,
-        transfer::number_transfer(command::read_status2_command(), 1),
+        number::number_transfer(command::read_status2_command(), 1),
         phase,
     )
 }
@@ -57,7 +37,7 @@ pub fn read_id(setup: Setup, phase: Phase) -> Then
 {
     go(
         setup,
-        transfer::number_transfer(command::read_id_command(), 3),
+        number::number_transfer(command::read_id_command(), 3),
         phase,
     )
 }
@@ -67,7 +47,7 @@ pub fn read_unique_id(setup: Setup, phase: Phase) -> Then
 {
     go(
         setup,
-        transfer::number_transfer(command::read_unique_id_command(), 8),
+        number::number_transfer(command::read_unique_id_command(), 8),
         phase,
     )
 }
@@ -79,7 +59,7 @@ pub fn enabled(setup: Setup, task: Task) -> Then
         setup,
         qspi::transfer::command_only(command::write_enable_command()),
         Phase::Writing {
-            task: task,
+            task,
             at: WriteStep::Enable,
             waited: 0,
         },
@@ -103,5 +83,5 @@ pub fn supported_if(test: bool, setup: Setup) -> Then
     if test {
         return end(setup, Answer::Done);
     }
-    Then::Fail(FlashError::NotSupported)
+    Err(FlashError::NotSupported)
 }

@@ -10,7 +10,7 @@ use nor_answers::answer::Answer;
 use nor_phases::phase::{Phase, Task};
 use nor_phases::setup::Setup;
 use spi_flash::error::FlashError;
-use spi_nor::config::{DeviceSetting, NorDeviceInfo, NorJedecId, QuadSetting};
+use spi_nor::config::{NorDeviceInfo, NorJedecId};
 use spi_nor::status;
 
 // The largest page that a read-back is made of.
@@ -20,52 +20,51 @@ pub const MAX_VERIFY_PAGE_SIZE: usize = 512;
 pub fn id_of(v: u64) -> NorJedecId
     ensures { result ≡ id_of v }
 {
+    let [.., manufacturer, memory_type, capacity] = v.to_be_bytes();
     NorJedecId {
-        manufacturer: (v / 65536 % 256) as u8,
-        memory_type: (v / 256 % 256) as u8,
-        capacity: (v % 256) as u8,
+        manufacturer,
+        memory_type,
+        capacity,
     }
 }
 
 // The caller's own device stays; else it is that of the id.
+#[tactic(auto, unfolding(crate::specs::Register::device_for))]
 fn device_for(setup: Setup, id: NorJedecId) -> NorDeviceInfo
     ensures { result ≡ device_for setup id }
 {
-    let config = setup.config;
-    let setting = config.device;
-    match setting {
-        DeviceSetting::Detect => NorDeviceInfo::from_jedec(id),
-        DeviceSetting::Given(_) => setup.device,
+    match setup.config.device {
+        None => NorDeviceInfo::from_jedec(id),
+        Some(_) => setup.device,
     }
 }
 
 // with_config, once the id has been read. A page that is too large is refused before anything is written to the part.
+#[tactic(auto, unfolding(crate::specs::Register::identified_then))]
 pub fn identified(setup: Setup, v: u64) -> Then
     ensures { result ≡ identified_then setup v }
 {
-    let config = setup.config;
     let id = id_of(v);
     let device = device_for(setup, id);
     let known = Setup {
-        config: config,
-        device: device,
-        id: id,
+        device,
+        id,
+        ..setup
     };
-    if device.page_size <= MAX_VERIFY_PAGE_SIZE {
-        let quad = config.quad;
-        match quad {
-            QuadSetting::Single => return go::end(known, Answer::Done),
-            QuadSetting::Quad(_) => return go::read2(known, Phase::EnableCheck2),
-        }
+    if device.page_size > MAX_VERIFY_PAGE_SIZE {
+        return Err(FlashError::NotSupported);
     }
-    Then::Fail(FlashError::NotSupported)
+    if setup.config.quad.is_some() {
+        return go::read2(known, Phase::EnableCheck2);
+    }
+    go::end(known, Answer::Done)
 }
 
 // quad_enabled, once status register 2 has been read.
 pub fn quad_flag(setup: Setup, status2: u8) -> Then
     ensures { result ≡ quad_flag setup status2 }
 {
-    if status::quad_enabled2(status2) {
+    if status::any(status::QE_SR2, status2) {
         return go::end(setup, Answer::Flag(true));
     }
     go::read1(setup, Phase::QuadEnabled1)
@@ -78,7 +77,7 @@ pub fn enable_check2(setup: Setup, status2: u8) -> Then
     ensures { result ≡ done_if (quad_enabled2_of status2) setup (read1_then setup Phase.EnableCheck1) }
 {
     go::done_if(
-        status::quad_enabled2(status2),
+        status::any(status::QE_SR2, status2),
         setup,
         go::read1(setup, Phase::EnableCheck1),
     )
@@ -89,7 +88,7 @@ pub fn enable_check1(setup: Setup, status1: u8) -> Then
     ensures { result ≡ done_if (quad_enabled1_of status1) setup (read2_then setup Phase.EnableRead2) }
 {
     go::done_if(
-        status::quad_enabled1(status1),
+        status::any(status::QE_SR1, status1),
         setup,
         go::read2(setup, Phase::EnableRead2),
     )
@@ -100,7 +99,7 @@ pub fn enable_verify2(setup: Setup, status2: u8) -> Then
     ensures { result ≡ done_if (quad_enabled2_of status2) setup (read1_then setup Phase.EnableRead1) }
 {
     go::done_if(
-        status::quad_enabled2(status2),
+        status::any(status::QE_SR2, status2),
         setup,
         go::read1(setup, Phase::EnableRead1),
     )
@@ -112,7 +111,7 @@ pub fn enable_verify2(setup: Setup, status2: u8) -> Then
 pub fn disable_first(setup: Setup, status2: u8) -> Then
     ensures { result ≡ disable_first setup status2 }
 {
-    if status::quad_enabled2(status2) {
+    if status::any(status::QE_SR2, status2) {
         return go::enabled(setup, Task::DisableQuad2(status2));
     }
     go::read1(setup, Phase::DisableRead1)
@@ -121,7 +120,7 @@ pub fn disable_first(setup: Setup, status2: u8) -> Then
 pub fn disable_second(setup: Setup, status1: u8) -> Then
     ensures { result ≡ disable_second setup status1 }
 {
-    if status::quad_enabled1(status1) {
+    if status::any(status::QE_SR1, status1) {
         return go::enabled(setup, Task::DisableQuad1(status1));
     }
     go::end(setup, Answer::Done)

@@ -1,20 +1,9 @@
 // What follows a transfer.
+use machine::then;
 use nor_answers::answer::Answer;
 use nor_phases::phase::Phase;
 use nor_phases::setup::Setup;
-use qspi::transfer::Transfer;
-use spi_flash::error::FlashError;
 
-// Another transfer, or the call's end.
-#[derive(Clone, Copy)]
-pub enum Next {
-    Go { transfer: Transfer, phase: Phase },
-    End(Answer),
-}
+pub type Then = then::Then<Setup, Phase, Answer>;
 
-#[derive(Clone, Copy)]
-pub enum Then {
-    // On with what the driver holds from here.
-    On { setup: Setup, next: Next },
-    Fail(FlashError),
-}
+pub type Opening = then::Opening<Setup, Phase, Answer>;

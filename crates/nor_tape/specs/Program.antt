@@ -3,22 +3,22 @@ use Rattle.std.specs.Prelude.{ℕ, Bool, true, false, List, length, leb}
 use Rattle.qspi.specs.Choice.{pick}
 use Rattle.qspi.specs.Shown.{shown_of}
 use Rattle.spi_flash.specs.declared.error.FlashError.{FlashError}
-use Rattle.lines.specs.Text.{Text, text_of, appended}
 use Rattle.lines.specs.Line.{line_of, end_line}
 use Rattle.nor_driver.specs.Answer.{ending_number}
 use Rattle.nor_driver.specs.Call.{not_built}
 use Rattle.nor_driver.specs.Settle.{refused_of}
 use Rattle.nor_phases.specs.declared.call.Call.{Call}
-use Rattle.nor_driver.specs.declared.state.Given.{Given}
-use Rattle.nor_tape.specs.Replay.{replay_at, begun_over}
-use Rattle.nor_tape.specs.declared.replay.Replay.{Replay}
+use Rattle.nor_answers.specs.declared.answer.Answer.{Answer}
+use Rattle.machine.specs.declared.state.Given.{Given}
+use Rattle.replay.specs.Replay.{replay_at}
+use Rattle.nor_tape.specs.Replay.{Replay, begun_over}
 
 -- "takes a tape of at most 65,536 bytes on standard input (a longer one is 15), builds a NOR with SpiNorConfig::single()"
 unfoldable pub begun_input : List ℕ → ℕ → Replay
 begun_input input s =
     pick (leb (length input) 65536) (begun_over not_built Call.New input s s s) (replay_at (refused_of not_built FlashError.MalformedTape) 0)
 
-unfoldable pub over_at : Given → Bool
+unfoldable pub over_at : Given Answer → Bool
 over_at (Given.Act action) = false
 over_at (Given.Ended answer) = true
 over_at (Given.Failed error) = true
@@ -28,11 +28,8 @@ unfoldable pub over_of : Replay → Bool
 over_of replay = over_at replay.stepped.given
 
 -- "one line an action", "then E and the number"
-unfoldable pub line_at : Given → List ℕ → List ℕ
+unfoldable pub line_at : Given Answer → List ℕ → List ℕ
 line_at (Given.Act action) scratch = line_of (shown_of action scratch scratch)
 line_at (Given.Ended answer) scratch = end_line (ending_number (Given.Ended answer))
 line_at (Given.Failed error) scratch = end_line (ending_number (Given.Failed error))
 line_at (Given.Refused error) scratch = end_line (ending_number (Given.Refused error))
-
-unfoldable pub line_into : Replay → List ℕ → List ℕ → Text
-line_into replay scratch out = appended (line_at replay.stepped.given scratch) (text_of out 0)

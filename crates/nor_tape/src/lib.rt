@@ -1,5 +1,4 @@
-// Calls of the NOR driver over a reply tape, and what the replay program prints of one.
+// What the replay program prints of a NOR call over a tape.
 #![tactic(auto)]
 
 pub mod program;
-pub mod replay;

@@ -1,2 +1,2 @@
-pub mod Call
+pub mod Name
 pub mod Setting

@@ -1,25 +1,32 @@
--- What a line between two calls makes of the settings ("Settings may stand between calls and count for the next new").
+-- The NOR's settings, and what a line between two calls makes of them.
+use Rattle.std.specs.Prelude.{ℕ, List, codes, Option}
+use Rattle.std.specs.Option.{option_map}
+use Rattle.case_text.specs.declared.line.Four.{Four}
 use Rattle.case_text.specs.declared.line.Line.{Line}
-use Rattle.spi_nor.specs.declared.config.DeviceSetting.{DeviceSetting}
-use Rattle.spi_nor.specs.declared.config.QuadSetting.{QuadSetting}
+use Rattle.case_text.specs.declared.line.Quad.{Quad}
+use Rattle.flash_words.specs.Words.{config_by}
+use Rattle.spi_nor.specs.declared.config.NorDeviceInfo.{NorDeviceInfo}
+use Rattle.spi_nor.specs.declared.config.NorQuadConfig.{NorQuadConfig}
 use Rattle.spi_nor.specs.declared.config.SpiNorConfig.{SpiNorConfig}
-use Rattle.nor_words.specs.Call.{quad_setting, device_setting}
 
-abbrev pub with_quad : SpiNorConfig → QuadSetting → SpiNorConfig
-with_quad config quad = record { quad = quad; device = config.device }
+-- "device 8388608 4096 65536 256 NOR: a device of the caller's own"
+abbrev pub own_name : List ℕ
+own_name = codes "device"
 
-abbrev pub with_device : SpiNorConfig → DeviceSetting → SpiNorConfig
-with_device config device = record { quad = config.quad; device = device }
+-- "tclqv_ns, read opcode, program (load) opcode, margin"
+abbrev pub quad_config : Quad → NorQuadConfig
+quad_config q = record { tclqv_ns = q.tclqv_ns; read_opcode = q.read_opcode; page_program_opcode = q.program_opcode; dummy_margin = q.margin }
 
-unfoldable pub config_at : SpiNorConfig → Line → SpiNorConfig
-config_at config Line.End = config
-config_at config Line.Passed = config
-config_at config Line.Done = config
-config_at config Line.Data = config
-config_at config (Line.BusError code) = config
-config_at config Line.NoQuad = with_quad config QuadSetting.Single
-config_at config (Line.Quad q) = with_quad config (quad_setting q)
-config_at config Line.NoOwn = with_device config DeviceSetting.Detect
-config_at config (Line.Own n) = with_device config (device_setting n)
-config_at config Line.Call = config
-config_at config Line.Bad = config
+-- "capacity, sector, block, page"
+abbrev pub device_info : Four → NorDeviceInfo
+device_info n = record { capacity = n.first; sector_size = n.second; block_size = n.third; page_size = n.fourth }
+
+abbrev pub quad_given : SpiNorConfig → Option Quad → SpiNorConfig
+quad_given config quad = record config { quad = option_map quad_config quad }
+
+abbrev pub own_given : SpiNorConfig → Option Four → SpiNorConfig
+own_given config own = record config { device = option_map device_info own }
+
+-- "Settings may stand between calls and count for the next new"
+abbrev pub config_at : SpiNorConfig → Line → SpiNorConfig
+config_at = config_by quad_given own_given

@@ -1,5 +1,4 @@
 // The NOR's words in a case: its calls and its settings.
 #![tactic(auto)]
 
-pub mod call;
-pub mod setting;
+pub mod name;

@@ -1,5 +1,6 @@
 -- Parts of lent slices, numbers, comparisons and deliveries.
-use Rattle.std.specs.Prelude.{ℕ, ◌+◌, ◌-◌, ◌*◌, ◌%◌, ◌<◌, List, [], ◌∷◌, length, take, drop, set, replicate, leb, eqb}
+use Rattle.std.specs.Prelude.{ℕ, Bool, nat_eq, fold, ◌+◌, ◌-◌, ◌*◌, ◌%◌, ◌<◌, List, [], ◌∷◌, length, take, drop, set, replicate, leb}
+use Rattle.std.specs.List.{starts_with}
 use Rattle.std.proofs.Math.Seq.{paste}
 use Rattle.qspi.specs.Choice.{pick}
 use Rattle.qspi.specs.Command.{scratch_least}
@@ -21,17 +22,18 @@ AllBytes (b ∷ bs) = (b < 256) × AllBytes bs
 
 -- highest byte first, in 64 bits: u64::from_be_bytes for up to eight bytes
 abbrev pub number_from : ℕ → List ℕ → ℕ
-number_from value [] = value
-number_from value (b ∷ bs) = number_from (value % 72057594037927936 * 256 + b) bs
+number_from value bytes = fold (λ n b. n % 72057594037927936 * 256 + b) value bytes
 
 abbrev pub number_of : List ℕ → ℕ
 number_of bytes = number_from 0 bytes
 
--- 1 where the second list begins with the first, else 0: the Rust's comparison of its verify array
-abbrev pub begins_of : List ℕ → List ℕ → ℕ
-begins_of [] d = 1
-begins_of (b ∷ bs) [] = 0
-begins_of (b ∷ bs) (x ∷ xs) = pick (eqb b x) (begins_of bs xs) 0
+-- the Rust's `buffer[0]` of a register's one byte
+abbrev pub byte_of : ℕ → ℕ
+byte_of v = v % 256
+
+-- whether the second list begins with the first: the Rust's comparison of its verify array
+abbrev pub begins_of : List ℕ → List ℕ → Bool
+begins_of s d = starts_with nat_eq d s
 
 -- the buffer with the bytes at a place; unchanged where they do not fit
 abbrev pub delivered_of : List ℕ → ℕ → List ℕ → List ℕ

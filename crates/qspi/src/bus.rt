@@ -2,7 +2,7 @@
 ghost use Rattle.std.specs.Prelude.{◌≡◌};
 ghost use Rattle.qspi.specs.Bus.{awaits_of, fits_of, on_bus};
 
-// The bytes of an action: a part of the scratch or of the caller's data.
+// The bytes of an action: a part of the scratch or of the caller's data. A struct of from and len would only be one name more.
 #[derive(Clone, Copy)]
 pub enum Part {
     Scratch { from: usize, len: usize },
@@ -28,7 +28,12 @@ pub enum Action {
     Delay(u32),
 }
 
-// The kind of a reply. The bytes of a Data reply are lent beside it.
+// The code of a failed bus call, which is the host's own.
+#[derive(Clone, Copy, PartialEq, Eq)]
+pub struct BusError(pub u8);
+
+// The kind of a reply. The bytes of a Data reply are lent beside it: as a borrow inside, they would put a reference in place of a list
+// into each definition over replies.
 #[derive(Clone, Copy)]
 pub enum Reply {
     Done,
@@ -48,44 +53,22 @@ fn awaited(action: Action) -> Awaits
     ensures { result ≡ awaits_of action }
 {
     match action {
-        Action::SelectLow => Awaits::Done,
-        Action::SelectHigh => Awaits::Done,
-        Action::Write(_) => Awaits::DoneOrError,
-        Action::Read(n) => Awaits::BytesOrError(n),
-        Action::QuadRead {
-            command: _,
-            tclqv_ns: _,
-            margin: _,
-            len,
-        } => Awaits::BytesOrError(len),
-        Action::QuadWrite {
-            command: _,
-            payload: _,
-        } => Awaits::DoneOrError,
-        Action::Delay(_) => Awaits::Done,
+        Action::SelectLow | Action::SelectHigh | Action::Delay(_) => Awaits::Done,
+        Action::Write(_) | Action::QuadWrite { .. } => Awaits::DoneOrError,
+        Action::Read(len) | Action::QuadRead { len, .. } => Awaits::BytesOrError(len),
     }
 }
 
 // Whether a reply with n bytes answers an action.
+#[tactic(auto, unfolding(crate::specs::Bus::fits_of))]
 pub fn fits(action: Action, reply: Reply, n: usize) -> bool
     ensures { result ≡ fits_of action reply n }
 {
-    match awaited(action) {
-        Awaits::Done => match reply {
-            Reply::Done => true,
-            Reply::Data => false,
-            Reply::Error(_) => false,
-        },
-        Awaits::DoneOrError => match reply {
-            Reply::Done => true,
-            Reply::Data => false,
-            Reply::Error(_) => true,
-        },
-        Awaits::BytesOrError(m) => match reply {
-            Reply::Done => false,
-            Reply::Data => n == m,
-            Reply::Error(_) => true,
-        },
+    match (awaited(action), reply) {
+        (Awaits::Done | Awaits::DoneOrError, Reply::Done) => true,
+        (Awaits::DoneOrError | Awaits::BytesOrError(_), Reply::Error(_)) => true,
+        (Awaits::BytesOrError(m), Reply::Data) => n == m,
+        _ => false,
     }
 }
 
@@ -93,21 +76,8 @@ pub fn fits(action: Action, reply: Reply, n: usize) -> bool
 pub fn on_bus(action: Action) -> bool
     ensures { result ≡ on_bus action }
 {
-    match action {
-        Action::SelectLow => false,
-        Action::SelectHigh => false,
-        Action::Write(_) => true,
-        Action::Read(_) => true,
-        Action::QuadRead {
-            command: _,
-            tclqv_ns: _,
-            margin: _,
-            len: _,
-        } => true,
-        Action::QuadWrite {
-            command: _,
-            payload: _,
-        } => true,
-        Action::Delay(_) => false,
-    }
+    !matches!(
+        action,
+        Action::SelectLow | Action::SelectHigh | Action::Delay(_)
+    )
 }

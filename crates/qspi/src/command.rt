@@ -1,5 +1,6 @@
 // The shapes of command bytes that the drivers send, and their place in the scratch.
-ghost use Rattle.std.specs.Prelude.{◌≡◌, length};
+ghost use Rattle.std.specs.Prelude.{◌≡◌, ◌≤◌, length};
+ghost use Rattle.std.proofs.lemmas.List.Edits.{sets};
 ghost use Rattle.qspi.specs.Command.{command_bytes, with_command};
 
 // The least scratch that a host lends.
@@ -24,29 +25,22 @@ pub fn command_len(command: Command) -> usize
 {
     match command {
         Command::Opcode(_) => 1,
-        Command::Byte { opcode: _, byte: _ } => 2,
-        Command::RegisterValue {
-            opcode: _,
-            register: _,
-            value: _,
-        } => 3,
-        Command::Address {
-            opcode: _,
-            address: _,
-        } => 4,
-        Command::Column {
-            opcode: _,
-            column: _,
-        } => 3,
-        Command::ColumnDummy {
-            opcode: _,
-            column: _,
-        } => 4,
+        Command::Byte { .. } => 2,
+        Command::RegisterValue { .. } | Command::Column { .. } => 3,
+        Command::Address { .. } | Command::ColumnDummy { .. } => 4,
         Command::FourDummies(_) => 5,
     }
 }
 
+fn put(bytes: &[u8], scratch: &mut [u8])
+    requires { length bytes.now ≤ length scratch.old }
+    ensures { scratch.new ≡ sets scratch.old 0 bytes.now }
+{
+    scratch[..bytes.len()].copy_from_slice(bytes);
+}
+
 // Puts the command at the scratch's start. A scratch that is too short keeps every byte.
+#[tactic(auto, unfolding(crate::specs::Command::with_command))]
 pub fn put_command(command: Command, scratch: &mut [u8])
     ensures { scratch.new ≡ with_command command scratch.old }
 {
@@ -54,45 +48,25 @@ pub fn put_command(command: Command, scratch: &mut [u8])
         return;
     }
     match command {
-        Command::Opcode(opcode) => {
-            scratch[0] = opcode;
-        }
-        Command::Byte { opcode, byte } => {
-            scratch[0] = opcode;
-            scratch[1] = byte;
-        }
+        Command::Opcode(opcode) => put(&[opcode], scratch),
+        Command::Byte { opcode, byte } => put(&[opcode, byte], scratch),
         Command::RegisterValue {
             opcode,
             register,
             value,
-        } => {
-            scratch[0] = opcode;
-            scratch[1] = register;
-            scratch[2] = value;
-        }
+        } => put(&[opcode, register, value], scratch),
         Command::Address { opcode, address } => {
-            scratch[0] = opcode;
-            scratch[1] = (address / 65536 % 256) as u8;
-            scratch[2] = (address / 256 % 256) as u8;
-            scratch[3] = (address % 256) as u8;
+            let [_, high, middle, low] = address.to_be_bytes();
+            put(&[opcode, high, middle, low], scratch);
         }
         Command::Column { opcode, column } => {
-            scratch[0] = opcode;
-            scratch[1] = (column / 256 % 256) as u8;
-            scratch[2] = (column % 256) as u8;
+            let [high, low] = column.to_be_bytes();
+            put(&[opcode, high, low], scratch);
         }
         Command::ColumnDummy { opcode, column } => {
-            scratch[0] = opcode;
-            scratch[1] = (column / 256 % 256) as u8;
-            scratch[2] = (column % 256) as u8;
-            scratch[3] = 0;
+            let [high, low] = column.to_be_bytes();
+            put(&[opcode, high, low, 0], scratch);
         }
-        Command::FourDummies(opcode) => {
-            scratch[0] = opcode;
-            scratch[1] = 0;
-            scratch[2] = 0;
-            scratch[3] = 0;
-            scratch[4] = 0;
-        }
+        Command::FourDummies(opcode) => put(&[opcode, 0, 0, 0, 0], scratch),
     }
 }

@@ -58,7 +58,7 @@ pub fn command_only(command: Command) -> Transfer
     ensures { result ≡ command_only command }
 {
     Transfer::Framed {
-        command: command,
+        command,
         body: Body::None,
     }
 }

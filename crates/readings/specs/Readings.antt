@@ -1,5 +1,5 @@
 -- Document 01, "Readings to check": those marked *, evaluated on the definitions that the contracts cite.
-use Rattle.std.specs.Prelude.{ℕ, ◌≡◌, Bool, true, false, List, [], ◌∷◌, ◌++◌, map}
+use Rattle.std.specs.Prelude.{ℕ, ◌≡◌, Bool, true, false, List, [], ◌∷◌, ◌++◌, map, None}
 use Rattle.std.specs.Int.Bits.{bit_or}
 use Rattle.qspi.specs.Command.{command_bytes}
 use Rattle.spi_flash.specs.WaitLaw.{largest_sum, looks}
@@ -21,10 +21,9 @@ use Rattle.nand_phases.specs.Transfer.{place_of, page_at, column_at, chunk_of}
 use Rattle.nand_phases.specs.declared.call.Call.{Call as NandCall}
 use Rattle.nand_driver.specs.Answer.{ending_number}
 use Rattle.nand_driver.specs.Call.{fresh_setup as fresh_nand, begin_of}
-use Rattle.nand_driver.specs.Settle.{flash_of}
-use Rattle.nand_driver.specs.declared.state.Given.{Given}
-use Rattle.nand_driver.specs.declared.state.Running.{Running}
-use Rattle.nand_driver.specs.declared.state.SpiNandFlash.{SpiNandFlash}
+use Rattle.nand_driver.specs.Settle.{SpiNandFlash, flash_of}
+use Rattle.nand_answers.specs.declared.answer.Answer.{Answer}
+use Rattle.machine.specs.declared.state.Given.{Given}
 
 -- the numbers that the definitions give, and those of the document
 pub record Reading : Type 0 where
@@ -98,15 +97,15 @@ nand_read = reading (piece_behind 0 ++ piece_behind 1) (0 ∷ 2047 ∷ 1 ∷ 1 �
 -- "Length 0 at 134,217,728 succeeds without actions; length 1 there is 5": on a W25N01GV that is built, what is given at once (0 an
 -- action, 1 success, 2 a failure, 3 a refusal) and its number
 abbrev pub built_nand : SpiNandFlash
-built_nand = flash_of (fresh_nand single_nand) true 0 Running.Idle
+built_nand = flash_of (fresh_nand single_nand) true 0 None
 
-abbrev pub kind_given : Given → ℕ
+abbrev pub kind_given : Given Answer → ℕ
 kind_given (Given.Act action) = 0
 kind_given (Given.Ended answer) = 1
 kind_given (Given.Failed error) = 2
 kind_given (Given.Refused error) = 3
 
-abbrev pub read_at_end : ℕ → Given
+abbrev pub read_at_end : ℕ → Given Answer
 read_at_end n = (begin_of built_nand (NandCall.Read 134217728) 264 n 0).given
 
 abbrev pub nand_end : Reading

@@ -3,7 +3,20 @@ use Rattle.tape_runs.specs.Exactly.{Exactly}
 use Rattle.tape_runs.specs.Player.{player_of}
 use Rattle.tape_runs.specs.Replays.{ReplayRuns}
 use Rattle.nor_tape.specs.Replay.{nor_taped}
-use Rattle.nand_tape.specs.Replay.{nand_taped}
+use Rattle.tape.specs.Replaying.{Taped}
+use Rattle.replay.specs.Replay.{taped}
+use Rattle.replay.specs.declared.call.Replay.{Replay}
+use Rattle.nand_answers.specs.declared.answer.Answer.{Answer}
+use Rattle.nand_phases.specs.declared.call.Call.{Call}
+use Rattle.nand_phases.specs.declared.phase.Phase.{Phase}
+use Rattle.nand_phases.specs.declared.setup.Setup.{Setup}
+use Rattle.nand_driver.specs.Call.{nand_calls}
+use Rattle.nand_driver.specs.Settle.{SpiNandFlash, Stepped}
+use Rattle.nand_driver.specs.Step.{nand_next}
+
+-- a call of the NAND driver over a tape
+abbrev pub nand_taped : Taped (Replay Setup Phase Answer) SpiNandFlash Setup Phase Answer Stepped Call
+nand_taped = taped nand_calls nand_next
 
 -- a replay is the driver's run on the replies of the tape
 pub record Replayed : Type 0 where

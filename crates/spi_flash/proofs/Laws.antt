@@ -6,9 +6,8 @@ use mathlib.Core.Path.{◌≡◌, refl, ap, sym, subst, ◌∙◌, fun_ext}
 use mathlib.Core.List.{List, [], ◌∷◌, ◌++◌}
 use mathlib.Core.Bool.{Bool, true, false}
 use Rattle.qspi.specs.declared.transfer.Transfer.{Transfer}
-use Rattle.frames.specs.declared.frame.Outcome.{Outcome}
 use Rattle.spi_flash.specs.declared.error.FlashError.{FlashError}
-use Rattle.std.specs.Prelude.{if◌then◌else◌}
+use Rattle.std.specs.Prelude.{if◌then◌else◌, Ok, Err}
 use Rattle.spi_flash.specs.Prog.{Prog, ret, fail, ask, ◌>>=◌, ◌>>◌, refuse, transfer}
 use Rattle.spi_flash.specs.Path.{Past, back, End, going, done, failed, spent, asked, Every, Some, Well, IfWell, Fits, Bounded, Reaches, Ends, AtLeast, Never}
 
@@ -26,19 +25,19 @@ pub every-all : {A : Type 0} (p : Prog A) (Q : List Past → End A → Type 0) �
 every-all (ret a) Q f = f [] (done a)
 every-all (fail e) Q f = f [] (failed e)
 every-all (ask t k) Q f =
-    (f [] (going t), (λ c. f (back t (Outcome.Failed c) ∷ []) (failed (FlashError.Spi c))), (λ v. every-all (k v) (λ xs e. Q (back t (Outcome.Value v) ∷ xs) e) (λ xs e. f (back t (Outcome.Value v) ∷ xs) e)))
+    (f [] (going t), (λ error. f (back t (Err error) ∷ []) (failed (FlashError.Spi error.0))), (λ v. every-all (k v) (λ xs e. Q (back t (Ok v) ∷ xs) e) (λ xs e. f (back t (Ok v) ∷ xs) e)))
 
 pub every-mono : {A : Type 0} (p : Prog A) {P Q : List Past → End A → Type 0} → ((xs : List Past) (e : End A) → P xs e → Q xs e) → Every p P → Every p Q
 every-mono (ret a) f h = f [] (done a) h
 every-mono (fail e) f h = f [] (failed e) h
 every-mono (ask t k) f h =
-    (f [] (going t) h.0, (λ c. f (back t (Outcome.Failed c) ∷ []) (failed (FlashError.Spi c)) (h.1 c)), (λ v. every-mono (k v) (λ xs e. f (back t (Outcome.Value v) ∷ xs) e) (h.2 v)))
+    (f [] (going t) h.0, (λ error. f (back t (Err error) ∷ []) (failed (FlashError.Spi error.0)) (h.1 error)), (λ v. every-mono (k v) (λ xs e. f (back t (Ok v) ∷ xs) e) (h.2 v)))
 
 pub every-both : {A : Type 0} (p : Prog A) (P Q : List Past → End A → Type 0) → Every p P → Every p Q → Every p (λ xs e. P xs e × Q xs e)
 every-both (ret a) P Q h k = (h, k)
 every-both (fail e) P Q h k = (h, k)
 every-both (ask t k) P Q h l =
-    ((h.0, l.0), (λ c. (h.1 c, l.1 c)), (λ v. every-both (k v) (λ xs e. P (back t (Outcome.Value v) ∷ xs) e) (λ xs e. Q (back t (Outcome.Value v) ∷ xs) e) (h.2 v) (l.2 v)))
+    ((h.0, l.0), (λ c. (h.1 c, l.1 c)), (λ v. every-both (k v) (λ xs e. P (back t (Ok v) ∷ xs) e) (λ xs e. Q (back t (Ok v) ∷ xs) e) (h.2 v) (l.2 v)))
 
 -- the statement after `p`, carried over what follows it
 pub every_bind : {A B : Type 0} (p : Prog A) (f : A → Prog B) (P : List Past → End A → Type 0) (Q : List Past → End B → Type 0) →
@@ -52,9 +51,9 @@ every_bind (ret a) f P Q h g l d = d [] a h
 every_bind (fail e) f P Q h g l d = l [] e h
 every_bind (ask t k) f P Q h g l d = (
   g [] t h.0,
-  (λ c. l (back t (Outcome.Failed c) ∷ []) (FlashError.Spi c) (h.1 c)),
-  (λ v. every_bind (k v) f (λ xs e. P (back t (Outcome.Value v) ∷ xs) e) (λ xs e. Q (back t (Outcome.Value v) ∷ xs) e) (h.2 v)
-      (λ xs u. g (back t (Outcome.Value v) ∷ xs) u) (λ xs e. l (back t (Outcome.Value v) ∷ xs) e) (λ xs a. d (back t (Outcome.Value v) ∷ xs) a)),
+  (λ error. l (back t (Err error) ∷ []) (FlashError.Spi error.0) (h.1 error)),
+  (λ v. every_bind (k v) f (λ xs e. P (back t (Ok v) ∷ xs) e) (λ xs e. Q (back t (Ok v) ∷ xs) e) (h.2 v)
+      (λ xs u. g (back t (Ok v) ∷ xs) u) (λ xs e. l (back t (Ok v) ∷ xs) e) (λ xs a. d (back t (Ok v) ∷ xs) a)),
 )
 
 -- ---- some path
@@ -62,7 +61,7 @@ every_bind (ask t k) f P Q h g l d = (
 pub some_mono : {A : Type 0} (g : List ℕ) (p : Prog A) {P Q : List Past → End A → Type 0} → ((xs : List Past) (e : End A) → P xs e → Q xs e) → Some g p P → Some g p Q
 some_mono g (ret a) f h = f [] (done a) h
 some_mono g (fail e) f h = f [] (failed e) h
-some_mono g (ask t k) f h = (h.0, h.1, some_mono g (k h.0) (λ xs e. f (back t (Outcome.Value h.0) ∷ xs) e) h.2)
+some_mono g (ask t k) f h = (h.0, h.1, some_mono g (k h.0) (λ xs e. f (back t (Ok h.0) ∷ xs) e) h.2)
 
 shift : {A : Type 0} (P : A → List Past → Type 0) (x : Past) (xs : List Past) (e : End A) → Well P (x ∷ xs) e → Well (λ a ys. P a (x ∷ ys)) xs e
 shift P x xs (going t) h = h
@@ -77,7 +76,7 @@ unfolding ◌>>=◌
 some-bind g (ret a) f P Q h d = d [] a h
 some-bind g (fail e) f P Q h d = absurd h
 some-bind g (ask t k) f P Q h d =
-    let x = back t (Outcome.Value h.0) in
+    let x = back t (Ok h.0) in
     (h.0, h.1, some-bind g (k h.0) f (λ a xs. P a (x ∷ xs)) (λ xs e. Q (x ∷ xs) e) (some_mono g (k h.0) (shift P x) h.2) (λ xs a. d (x ∷ xs) a))
 
 pub spent-append : (w : Transfer → ℕ) (xs ys : List Past) → spent w (xs ++ ys) ≡ spent w xs + spent w ys
@@ -140,7 +139,7 @@ ended a l h = bounded-more (omega arith) (bounded-then {c = 0} h bounded-ret)
 pub ends-ret : {A : Type 0} {g : List ℕ} {w : Transfer → ℕ} {a : A} → Ends g w 0 a (ret a)
 ends-ret = record { ends = (refl, refl) }
 
-ends_more : {A : Type 0} (w : Transfer → ℕ) (a : A) (b : ℕ) (t : Transfer) (v : ℕ) (xs : List Past) (e : End A) → Well (λ x ys. (x ≡ a) × (spent w ys ≡ b)) xs e → Well (λ x ys. (x ≡ a) × (spent w ys ≡ w t + b)) (back t (Outcome.Value v) ∷ xs) e
+ends_more : {A : Type 0} (w : Transfer → ℕ) (a : A) (b : ℕ) (t : Transfer) (v : ℕ) (xs : List Past) (e : End A) → Well (λ x ys. (x ≡ a) × (spent w ys ≡ b)) xs e → Well (λ x ys. (x ≡ a) × (spent w ys ≡ w t + b)) (back t (Ok v) ∷ xs) e
 ends_more w a b t v xs (going u) m = m
 ends_more w a b t v xs (done x) m = (m.0, omega arith)
 ends_more w a b t v xs (failed e) m = m
@@ -294,7 +293,7 @@ unfolding ◌>>=◌
 some-never g (ret a) f N P Q n l h m = absurd (n [] a h)
 some-never g (fail e) f N P Q n l h m = l [] e m
 some-never g (ask t k) f N P Q n l h m =
-    let x = back t (Outcome.Value m.0) in
+    let x = back t (Ok m.0) in
     (m.0, m.1, some-never g (k m.0) f (λ xs e. N (x ∷ xs) e) (λ xs e. P (x ∷ xs) e) (λ xs e. Q (x ∷ xs) e) (λ xs a. n (x ∷ xs) a) (λ xs e. l (x ∷ xs) e) (h.2 m.0) m.2)
 
 pub reaches-never : {A B : Type 0} {g : List ℕ} {w : Transfer → ℕ} {p : Prog A} (f : A → Prog B) {b : ℕ} → Never p → Reaches g w b p → Reaches g w b (p >>= f)

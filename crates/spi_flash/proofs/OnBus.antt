@@ -1,4 +1,5 @@
 -- The frames of a transfer are the Rust's bus calls: a reply that fits does to both the same.
+use Rattle.std.specs.Prelude.{Ok, Err}
 use Prim.Native.Nat.{ℕ}
 use native.Mathlib.Omega.{arith}
 use mathlib.Core.Bool.{true, false}
@@ -9,14 +10,13 @@ use Rattle.qspi.specs.Bus.{awaits_of, fits_at}
 use Rattle.qspi.specs.Command.{command_bytes}
 use Rattle.qspi.specs.Shown.{high, write, read, quad_read, quad_write}
 use Rattle.frames.specs.ShownBytes.{payload_bytes, start_shown, shown_at}
-use Rattle.frames.specs.Frame.{action_at, start_action, sink_of, value_of, taken_at, frame_at, advanced_at}
+use Rattle.frames.specs.Frame.{Outcome, action_at, start_action, sink_of, value_of, taken_at, frame_at, advanced_at}
 use Rattle.qspi.specs.declared.bus.Awaits.{Awaits}
 use Rattle.qspi.specs.declared.bus.Reply.{Reply}
 use Rattle.qspi.specs.declared.transfer.Sink.{Sink}
 use Rattle.qspi.specs.declared.transfer.Body.{Body}
 use Rattle.qspi.specs.declared.transfer.Transfer.{Transfer}
 use Rattle.frames.specs.declared.frame.Stage.{Stage}
-use Rattle.frames.specs.declared.frame.Outcome.{Outcome}
 use Rattle.frames.specs.declared.frame.Advanced.{Advanced}
 use Rattle.spi_flash.specs.declared.error.FlashError.{FlashError}
 use Rattle.spi_flash.specs.Run.{Answer}
@@ -49,9 +49,9 @@ Reached Stage.High t = Unit {0}
 
 -- nothing has come of the transfer before its last action
 abbrev pub Fresh : Stage → Outcome → Type 0
-Fresh Stage.Start o = o ≡ Outcome.Value 0
-Fresh Stage.Command o = o ≡ Outcome.Value 0
-Fresh Stage.Payload o = o ≡ Outcome.Value 0
+Fresh Stage.Start o = o ≡ Ok 0
+Fresh Stage.Command o = o ≡ Ok 0
+Fresh Stage.Payload o = o ≡ Ok 0
 Fresh Stage.High o = Unit {0}
 
 abbrev pub Proper : Stage → Transfer → Outcome → Type 0
@@ -72,8 +72,8 @@ done-at-start (Transfer.Framed c (Body.QuadWrite payload)) = refl
 module _ {A : Type 0} (given : List ℕ) (then : ℕ → BusProg A) where
   -- select is high again
   abbrev pub concluded : Outcome → BusProg A
-  concluded (Outcome.Value v) = then v
-  concluded (Outcome.Failed code) = stops (FlashError.Spi code)
+  concluded (Ok v) = then v
+  concluded (Err error) = stops (FlashError.Spi error.0)
 
   -- the result is known, select is low
   pub closes : Result → BusProg (List ℕ)
@@ -120,7 +120,7 @@ module _ {A : Type 0} (given : List ℕ) (then : ℕ → BusProg A) where
   behind Stage.High t o r = concluded o
 
   -- a transfer as the Rust makes it, and as its frame begins
-  pub starts : (t : Transfer) → on_bus given t >>= then ≡ does (start_shown t) (behind Stage.Start t (Outcome.Value 0))
+  pub starts : (t : Transfer) → on_bus given t >>= then ≡ does (start_shown t) (behind Stage.Start t (Ok 0))
   unfolding on_bus framed framed_then closes ◌>>=◌ ◌>>◌
   starts Transfer.Raise = refl
   starts (Transfer.Pause us) = refl
@@ -145,7 +145,7 @@ module _ {A : Type 0} (given : List ℕ) (then : ℕ → BusProg A) where
     pub same : (rs : List Answer) (buffer : List ℕ) → performed (behind stage t o (answer_of r bytes)) rs buffer ≡
         performed (onward (advanced_at (frame_at t stage o) r bytes given)) rs (taken_at r (sink_of t) bytes buffer)
 
-  started : (t : Transfer) (bytes : List ℕ) → Follows Stage.Start t (Outcome.Value 0) Reply.Done bytes
+  started : (t : Transfer) (bytes : List ℕ) → Follows Stage.Start t (Ok 0) Reply.Done bytes
   unfolding on_bus reading closes ◌>>=◌ ◌>>◌
   started Transfer.Raise bytes = record { proper = tt; same = λ rs b. refl }
   started (Transfer.Pause us) bytes = record { proper = tt; same = λ rs b. refl }
@@ -156,7 +156,7 @@ module _ {A : Type 0} (given : List ℕ) (then : ℕ → BusProg A) where
   started (Transfer.Framed c (Body.QuadWrite payload)) bytes = record { proper = (tt, refl); same = λ rs b. refl }
 
   commanded : (t : Transfer) → Reached Stage.Command t → (r : Reply) (bytes : List ℕ) →
-      fits_at (awaits_of (action_at Stage.Command t)) r (length bytes) ≡ true → Follows Stage.Command t (Outcome.Value 0) r bytes
+      fits_at (awaits_of (action_at Stage.Command t)) r (length bytes) ≡ true → Follows Stage.Command t (Ok 0) r bytes
   unfolding reading closes ◌>>=◌ ◌>>◌
   commanded Transfer.Raise p r bytes fit = absurd p
   commanded (Transfer.Pause us) p r bytes fit = absurd p
@@ -181,7 +181,7 @@ module _ {A : Type 0} (given : List ℕ) (then : ℕ → BusProg A) where
   got (Sink.Compare from) bytes rs buffer = refl
 
   paid : (t : Transfer) → Reached Stage.Payload t → (r : Reply) (bytes : List ℕ) →
-      fits_at (awaits_of (action_at Stage.Payload t)) r (length bytes) ≡ true → Follows Stage.Payload t (Outcome.Value 0) r bytes
+      fits_at (awaits_of (action_at Stage.Payload t)) r (length bytes) ≡ true → Follows Stage.Payload t (Ok 0) r bytes
   unfolding closes ◌>>=◌ ◌>>◌
   paid Transfer.Raise p r bytes fit = absurd p
   paid (Transfer.Pause us) p r bytes fit = absurd p

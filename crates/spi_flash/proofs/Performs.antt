@@ -1,4 +1,5 @@
 -- A run gives what its program does on the bus.
+use Rattle.std.specs.Prelude.{Ok, Err}
 use Prim.Native.Nat.{ℕ, ◌≤◌}
 use mathlib.Core.Bool.{true}
 use mathlib.Core.Path.{◌≡◌, refl, ap, ap₂, sym, ◌∙◌, subst}
@@ -10,12 +11,11 @@ use Rattle.qspi.specs.Bus.{fits_of}
 use Rattle.qspi.specs.Command.{scratch_least}
 use Rattle.qspi.specs.Shown.{Shown, shown_of}
 use Rattle.frames.specs.ShownBytes.{start_shown, shown_at}
-use Rattle.frames.specs.Frame.{first_of, action_of, sink_of, taken_at, taken_in, frame_at, advanced_at, advanced_of, gave, exchange_of}
+use Rattle.frames.specs.Frame.{Outcome, first_of, action_of, sink_of, taken_at, taken_in, frame_at, advanced_at, advanced_of, gave, exchange_of}
 use Rattle.frames.proofs.Sent.{shown-bytes}
 use Rattle.qspi.specs.declared.bus.Reply.{Reply}
 use Rattle.qspi.specs.declared.transfer.Transfer.{Transfer}
 use Rattle.frames.specs.declared.frame.Stage.{Stage}
-use Rattle.frames.specs.declared.frame.Outcome.{Outcome}
 use Rattle.frames.specs.declared.frame.Advanced.{Advanced}
 use Rattle.frames.specs.declared.frame.Frame.{Frame}
 use Rattle.spi_flash.specs.declared.loan.Takes.{Takes}
@@ -82,8 +82,8 @@ module _ (C : Type 0) {S A : Type 0} (Valid : S → Type 0) (next : S → Outcom
       Steps (settle k d l) es from before (program_on_bus given (tree meaning d)) l.buffer
   unfolding program_on_bus performed first_of
   settles es ih (more t s) w l from before fit same still =
-      ap₂ (λ shown rest. did (act shown) l.buffer ∷ rest) (first-shown t l.scratch l.given) (ih s t Stage.Start (Outcome.Value 0) l.buffer w (tt, refl) fit same.1 still.1)
-      ∙ sym (does-first (start_shown t) (behind given (then s) Stage.Start t (Outcome.Value 0)) (replies_of es) l.buffer)
+      ap₂ (λ shown rest. did (act shown) l.buffer ∷ rest) (first-shown t l.scratch l.given) (ih s t Stage.Start (Ok 0) l.buffer w (tt, refl) fit same.1 still.1)
+      ∙ sym (does-first (start_shown t) (behind given (then s) Stage.Start t (Ok 0)) (replies_of es) l.buffer)
       ∙ ap (λ p. performed p (replies_of es) l.buffer) (sym (starts given (then s) t))
   settles es ih (well a) w l from before fit same still = refl
   settles es ih (bad e) w l from before fit same still = refl
@@ -91,8 +91,8 @@ module _ (C : Type 0) {S A : Type 0} (Valid : S → Type 0) (next : S → Outcom
   over : (es : List (Event C)) → Sees es → (s : S) → Valid s → (o : Outcome) (l from : Lent) (before : List ℕ) →
       Steps (settle k (next s o) l) es from before (concluded given (then s) o) l.buffer
   unfolding performed
-  over es ih s w (Outcome.Value v) l from before = rw (sim.on_value s v w) (settles es ih (next s (Outcome.Value v)) (sim.keeps s v w) l from before)
-  over es ih s w (Outcome.Failed code) l from before = rw (sim.on_failure s code) (λ fit same still. refl)
+  over es ih s w (Ok v) l from before = rw (sim.on_value s v w) (settles es ih (next s (Ok v)) (sim.keeps s v w) l from before)
+  over es ih s w (Err error) l from before = rw (sim.on_failure s error) (λ fit same still. refl)
 
   taken-settled : (d : Decision S A) (l : Lent) (P : Type 0) → Taken (settle k d l).given P → P
   taken-settled (more t s) l P h = h

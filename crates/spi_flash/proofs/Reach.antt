@@ -1,4 +1,5 @@
 -- What some path of a program comes to, some list of fitting replies brings the run to, whatever scratch and buffer are lent.
+use Rattle.std.specs.Prelude.{Ok}
 use Prim.Native.Nat.{ℕ, suc}
 use native.Mathlib.Omega.{arith}
 use mathlib.Core.Bool.{true}
@@ -7,14 +8,13 @@ use mathlib.Core.List.{List, [], ◌∷◌, ◌++◌}
 use lib.ListN.{length}
 use borrow.Author.Tests.{eq-eqb}
 use Rattle.qspi.specs.Bus.{fits_of}
-use Rattle.frames.specs.Frame.{first_of, action_of, exchange_of, advanced_of, frame_at, value_of}
+use Rattle.frames.specs.Frame.{Outcome, first_of, action_of, exchange_of, advanced_of, frame_at, value_of}
 use Rattle.qspi.specs.declared.bus.Reply.{Reply}
 use Rattle.qspi.specs.declared.transfer.Body.{Body}
 use Rattle.qspi.specs.declared.transfer.Transfer.{Transfer}
 use Rattle.qspi.specs.declared.transfer.Sink.{Sink}
 use Rattle.frames.specs.declared.frame.Frame.{Frame}
 use Rattle.frames.specs.declared.frame.Stage.{Stage}
-use Rattle.frames.specs.declared.frame.Outcome.{Outcome}
 use Rattle.frames.specs.declared.frame.Advanced.{Advanced}
 use Rattle.spi_flash.specs.declared.loan.Takes.{Takes}
 use Rattle.spi_flash.specs.Loan.{Lent}
@@ -31,13 +31,13 @@ Along given (ret a) (v ∷ vs) Q = ⊥
 Along given (fail e) [] Q = Q [] (failed e)
 Along given (fail e) (v ∷ vs) Q = ⊥
 Along given (ask t k) [] Q = ⊥
-Along given (ask t k) (v ∷ vs) Q = Fits given t v × Along given (k v) vs (λ past end. Q (back t (Outcome.Value v) ∷ past) end)
+Along given (ask t k) (v ∷ vs) Q = Fits given t v × Along given (k v) vs (λ past end. Q (back t (Ok v) ∷ past) end)
 
 some_along : {A : Type 0} (given : List ℕ) (p : Prog A) (Q : List Past → End A → Type 0) → Some given p Q → (vs : List ℕ) × Along given p vs Q
 some_along given (ret a) Q h = ([], h)
 some_along given (fail e) Q h = ([], h)
 some_along given (ask t k) Q h =
-    let r = some_along given (k h.0) (λ past end. Q (back t (Outcome.Value h.0) ∷ past) end) h.2 in
+    let r = some_along given (k h.0) (λ past end. Q (back t (Ok h.0) ∷ past) end) h.2 in
     (h.0 ∷ r.0, (h.1, r.1))
 
 module _ (C : Type 0) {S A : Type 0} (next : S → Outcome → Decision S A) (takes : Takes) (given : List ℕ) where
@@ -133,24 +133,24 @@ module _ (C : Type 0) {S A : Type 0} (next : S → Outcome → Decision S A) (ta
   module _ (s : S) (Q : List Past → End A → Type 0) (rs : List Answer) where
     -- the transfer's value is v, and the call goes on to Q
     abbrev GoesOn : Transfer → ℕ → Type 0
-    GoesOn t v = Decides (next s (Outcome.Value v)) (λ past end. Q (back t (Outcome.Value v) ∷ past) end) rs
+    GoesOn t v = Decides (next s (Ok v)) (λ past end. Q (back t (Ok v) ∷ past) end) rs
 
     at : (t : Transfer) (stage : Stage) → Frame
-    at t stage = frame_at t stage (Outcome.Value 0)
+    at t stage = frame_at t stage (Ok 0)
 
     -- select high, with what has come of the transfer
-    high : (t : Transfer) (u v : ℕ) → v ≡ u → GoesOn t v → Brings s (frame_at t Stage.High (Outcome.Value u)) Q (ok ∷ rs)
+    high : (t : Transfer) (u v : ℕ) → v ≡ u → GoesOn t v → Brings s (frame_at t Stage.High (Ok u)) Q (ok ∷ rs)
     unfolding fits_of action_of advanced_of ok
-    high t u v e h = overs s (frame_at t Stage.High (Outcome.Value u)) Q ok rs (Outcome.Value u) refl refl (subst (GoesOn t) e h)
+    high t u v e h = overs s (frame_at t Stage.High (Ok u)) Q ok rs (Ok u) refl refl (subst (GoesOn t) e h)
 
     -- the data of a read
     data-read : (t : Transfer) (n : ℕ) (sink : Sink) (v : ℕ) (h : Answers given n sink v) →
         fits_of (action_of (at t Stage.Payload)) Reply.Data (length h.bytes) ≡ true →
-        advanced_of (at t Stage.Payload) Reply.Data h.bytes given ≡ Advanced.More (frame_at t Stage.High (Outcome.Value (value_of sink h.bytes given))) →
+        advanced_of (at t Stage.Payload) Reply.Data h.bytes given ≡ Advanced.More (frame_at t Stage.High (Ok (value_of sink h.bytes given))) →
         GoesOn t v → Brings s (at t Stage.Payload) Q (got h.bytes ∷ ok ∷ rs)
     unfolding got
     data-read t n sink v h fit to d =
-        goes s (at t Stage.Payload) (frame_at t Stage.High (Outcome.Value (value_of sink h.bytes given))) Q (got h.bytes) (ok ∷ rs) fit to (high t (value_of sink h.bytes given) v (sym h.value) d)
+        goes s (at t Stage.Payload) (frame_at t Stage.High (Ok (value_of sink h.bytes given))) Q (got h.bytes) (ok ∷ rs) fit to (high t (value_of sink h.bytes given) v (sym h.value) d)
 
     -- a done that leads on inside the frame
     onwards : (t : Transfer) (from to : Stage) (as' : List Answer) →
@@ -162,8 +162,8 @@ module _ (C : Type 0) {S A : Type 0} (next : S → Outcome → Decision S A) (ta
     -- the replies that a transfer's value stands for
     transferred : (t : Transfer) (v : ℕ) (h : Fits given t v) → GoesOn t v → Brings s (first_of t) Q (replies_to t v h ++ rs)
     unfolding first_of fits_of action_of advanced_of ok replies_to at
-    transferred Transfer.Raise v h d = overs s (first_of Transfer.Raise) Q ok rs (Outcome.Value 0) refl refl (subst (GoesOn Transfer.Raise) h d)
-    transferred (Transfer.Pause us) v h d = overs s (first_of (Transfer.Pause us)) Q ok rs (Outcome.Value 0) refl refl (subst (GoesOn (Transfer.Pause us)) h d)
+    transferred Transfer.Raise v h d = overs s (first_of Transfer.Raise) Q ok rs (Ok 0) refl refl (subst (GoesOn Transfer.Raise) h d)
+    transferred (Transfer.Pause us) v h d = overs s (first_of (Transfer.Pause us)) Q ok rs (Ok 0) refl refl (subst (GoesOn (Transfer.Pause us)) h d)
     transferred (Transfer.Framed c Body.None) v h d =
         onwards (Transfer.Framed c Body.None) Stage.Start Stage.Command _ refl refl
         (onwards (Transfer.Framed c Body.None) Stage.Command Stage.High _ refl refl
@@ -194,8 +194,8 @@ module _ (C : Type 0) {S A : Type 0} (next : S → Outcome → Decision S A) (ta
     decides (v ∷ vs) (well a) Q w h = absurd h
     decides (v ∷ vs) (bad e) Q w h = absurd h
     decides (v ∷ vs) (more t s) Q w h =
-        let Q' : List Past → End A → Type 0 = λ past end. Q (back t (Outcome.Value v) ∷ past) end in
-        let r = decides vs (next s (Outcome.Value v)) Q' (sim.keeps s v w) (subst (λ p. Along given p vs Q') (sim.on_value s v w) h.1) in
+        let Q' : List Past → End A → Type 0 = λ past end. Q (back t (Ok v) ∷ past) end in
+        let r = decides vs (next s (Ok v)) Q' (sim.keeps s v w) (subst (λ p. Along given p vs Q') (sim.on_value s v w) h.1) in
         let b = transferred s Q r.0 t v h.0 r.2 in
         (replies_to t v h.0 ++ r.0, replies-real t v h.0 r.0 r.1, record { fits = λ l ls n i. b.fits ls n i; ends = λ l ls n i. b.ends ls n i; leads = λ ls n i. b.leads ls n i })
 

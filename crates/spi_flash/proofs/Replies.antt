@@ -1,6 +1,7 @@
 -- Replies that fit and give a value: a number's bytes, any bytes for the buffer, the caller's own bytes for a comparison.
 use Prim.Native.Nat.{ℕ, zero, suc, ◌+◌, ◌≤◌, ◌<◌}
 use native.Mathlib.Omega.{arith}
+use mathlib.Core.Bool.{true}
 use mathlib.Core.Path.{◌≡◌, refl}
 use mathlib.Core.List.{List, [], ◌∷◌}
 use lib.Dec.{lit<}
@@ -29,7 +30,7 @@ drop-small zero bs h = h
 drop-small (suc n) [] h = tt
 drop-small (suc n) (b ∷ bs) h = drop-small n bs h.1
 
-begins : (n : ℕ) (bs : List ℕ) → begins_of (take n bs) bs ≡ 1
+begins : (n : ℕ) (bs : List ℕ) → begins_of (take n bs) bs ≡ true
 begins zero bs = refl
 begins (suc n) [] = refl
 begins (suc n) (b ∷ bs) = rw (eq-eqb b b refl) (begins n bs)
@@ -52,5 +53,5 @@ module _ (given : List ℕ) where
     bytes = take n (drop from given);
     size = length-take-le n (drop from given) (simp length-drop (omega arith));
     small = take-small n (drop from given) (drop-small from given h);
-    value = begins n (drop from given);
+    value = rw (begins n (drop from given)) refl;
   }

@@ -1,4 +1,5 @@
 -- A run follows its program, for every list of events.
+use Rattle.std.specs.Prelude.{Option, Some, None, Ok, Err}
 use Prim.Native.Nat.{ℕ, suc, ◌+◌, ◌≤◌, ◌<◌}
 use native.Mathlib.Omega.{arith}
 use mathlib.Core.Bool.{Bool, true, false}
@@ -10,14 +11,12 @@ use lib.Dec.{lit<}
 use Rattle.qspi.specs.Choice.{pick}
 use Rattle.qspi.specs.Bus.{awaits_of, fits_at, fits_of}
 use Rattle.qspi.specs.Shown.{shown_of, delay_of}
-use Rattle.frames.specs.Frame.{first_of, action_of, action_at, command_action, payload_action, exchanged_to, exchange_of, advanced_of, advanced_at, frame_at, moved_on, next_stage, gave, taken_in}
+use Rattle.frames.specs.Frame.{Outcome, first_of, action_of, action_at, command_action, payload_action, exchanged_to, exchange_of, advanced_of, advanced_at, frame_at, moved_on, next_stage, gave, taken_in}
 use Rattle.qspi.specs.declared.bus.Reply.{Reply}
 use Rattle.qspi.specs.declared.transfer.Body.{Body}
 use Rattle.qspi.specs.declared.transfer.Transfer.{Transfer}
 use Rattle.frames.specs.declared.frame.Frame.{Frame}
 use Rattle.frames.specs.declared.frame.Stage.{Stage}
-use Rattle.frames.specs.declared.frame.Outcome.{Outcome}
-use Rattle.frames.specs.declared.frame.Following.{Following}
 use Rattle.frames.specs.declared.frame.Advanced.{Advanced}
 use Rattle.frames.specs.declared.frame.Exchanged.{Exchanged}
 use Rattle.spi_flash.specs.declared.loan.Takes.{Takes}
@@ -89,12 +88,12 @@ payload-quiet (Transfer.Framed c (Body.QuadRead q m n k)) s l = refl
 payload-quiet (Transfer.Framed c (Body.QuadWrite p)) s l = refl
 
 -- a stage leads on to a later one
-abbrev Later : Stage → Transfer → Following → Type 0
-Later stage t (Following.To Stage.Start) = ⊥
-Later stage t (Following.To Stage.Command) = remaining_at Stage.Command t < remaining_at stage t
-Later stage t (Following.To Stage.Payload) = remaining_at Stage.Payload t < remaining_at stage t
-Later stage t (Following.To Stage.High) = remaining_at Stage.High t < remaining_at stage t
-Later stage t Following.Over = Last stage t
+abbrev Later : Stage → Transfer → Option Stage → Type 0
+Later stage t (Some Stage.Start) = ⊥
+Later stage t (Some Stage.Command) = remaining_at Stage.Command t < remaining_at stage t
+Later stage t (Some Stage.Payload) = remaining_at Stage.Payload t < remaining_at stage t
+Later stage t (Some Stage.High) = remaining_at Stage.High t < remaining_at stage t
+Later stage t None = Last stage t
 
 onward : (t : Transfer) (stage : Stage) → Later stage t (next_stage t stage)
 onward Transfer.Raise Stage.Start = tt
@@ -134,19 +133,19 @@ error-onward t Stage.Payload code n h = lit< tt
 error-onward t Stage.High code n h = absurd (false≢true h)
 
 module _ (f : Frame) (P : Advanced → Type 0) (mored : (g : Frame) → Goes f g → P (Advanced.More g)) (overed : (o : Outcome) → Last f.stage f.transfer → P (Advanced.Over o)) where
-  goes_on-lem : (x : Following) (o : Outcome) → Later f.stage f.transfer x → P (moved_on f.transfer x o)
+  goes_on-lem : (x : Option Stage) (o : Outcome) → Later f.stage f.transfer x → P (moved_on f.transfer x o)
   unfolding action_of
-  goes_on-lem (Following.To Stage.Start) o h = absurd h
-  goes_on-lem (Following.To Stage.Command) o h = mored (frame_at f.transfer Stage.Command o) (record { same = refl; begun = tt; shorter = h; quiet = command-quiet f.transfer })
-  goes_on-lem (Following.To Stage.Payload) o h = mored (frame_at f.transfer Stage.Payload o) (record { same = refl; begun = tt; shorter = h; quiet = payload-quiet f.transfer })
-  goes_on-lem (Following.To Stage.High) o h = mored (frame_at f.transfer Stage.High o) (record { same = refl; begun = tt; shorter = h; quiet = λ s l. refl })
-  goes_on-lem Following.Over o h = overed o h
+  goes_on-lem (Some Stage.Start) o h = absurd h
+  goes_on-lem (Some Stage.Command) o h = mored (frame_at f.transfer Stage.Command o) (record { same = refl; begun = tt; shorter = h; quiet = command-quiet f.transfer })
+  goes_on-lem (Some Stage.Payload) o h = mored (frame_at f.transfer Stage.Payload o) (record { same = refl; begun = tt; shorter = h; quiet = payload-quiet f.transfer })
+  goes_on-lem (Some Stage.High) o h = mored (frame_at f.transfer Stage.High o) (record { same = refl; begun = tt; shorter = h; quiet = λ s l. refl })
+  goes_on-lem None o h = overed o h
 
   advanced-view : (r : Reply) (bytes lent : List ℕ) → fits_of (action_of f) r (length bytes) ≡ true → P (advanced_at f r bytes lent)
   unfolding fits_of action_of
   advanced-view Reply.Done bytes lent h = goes_on-lem (next_stage f.transfer f.stage) _ (onward f.transfer f.stage)
   advanced-view Reply.Data bytes lent h = goes_on-lem (next_stage f.transfer f.stage) _ (onward f.transfer f.stage)
-  advanced-view (Reply.Error code) bytes lent h = goes_on-lem (Following.To Stage.High) _ (error-onward f.transfer f.stage code (length bytes) h)
+  advanced-view (Reply.Error code) bytes lent h = goes_on-lem (Some Stage.High) _ (error-onward f.transfer f.stage code (length bytes) h)
 
 -- a reply is refused, or the frame goes on, or it is over
 module _ (k : Takes) (f : Frame) (r : Reply) (bytes : List ℕ) (l : Lent) (P : Exchanged → Type 0)
@@ -180,10 +179,10 @@ module _ {S A C : Type 0} (Valid : S → Type 0) (next : S → Outcome → Decis
 
     overed : (s : S) (t : Transfer) (o : Outcome) (Q : List Past → End A → Type 0) → Valid s → Every (ask t (meaning s)) Q →
         At Q (push (back t o) (decided_trail (next s o) (λ t s. trail next k s (first_of t) es)))
-    overed s t (Outcome.Value v) Q w h =
-        let Q' : List Past → End A → Type 0 = λ past end. Q (back t (Outcome.Value v) ∷ past) end in
-        decided (next s (Outcome.Value v)) Q' (sim.keeps s v w) (subst (λ p. Every p Q') (sim.on_value s v w) (h.2 v))
-    overed s t (Outcome.Failed code) Q w h = rw (sim.on_failure s code) (h.1 code)
+    overed s t (Ok v) Q w h =
+        let Q' : List Past → End A → Type 0 = λ past end. Q (back t (Ok v) ∷ past) end in
+        decided (next s (Ok v)) Q' (sim.keeps s v w) (subst (λ p. Every p Q') (sim.on_value s v w) (h.2 v))
+    overed s t (Err error) Q w h = rw (sim.on_failure s error) (h.1 error)
 
   -- what holds on every path holds of the path of every run
   pub every-trail : (s : S) (f : Frame) (Q : List Past → End A → Type 0) → Valid s → Every (ask f.transfer (meaning s)) Q → (es : List (Event C)) →

@@ -1,4 +1,5 @@
 -- A program that reads nothing into the caller's buffer leaves it alone, over every run.
+use Rattle.std.specs.Prelude.{Ok, Err}
 use Prim.Native.Nat.{ℕ, zero, suc, ◌+◌, ◌≤◌}
 use native.Mathlib.Omega.{arith}
 use mathlib.Core.Bool.{Bool, true, false, not}
@@ -8,7 +9,7 @@ use lib.ListN.{length}
 use lib.Dec.{leb}
 use Rattle.qspi.specs.Choice.{pick}
 use Rattle.qspi.specs.Bus.{fits_of}
-use Rattle.frames.specs.Frame.{first_of, action_of, sink_of, taken_into, taken_at, taken_in, exchanged_to, advanced_of, gave, exchange_of}
+use Rattle.frames.specs.Frame.{Outcome, first_of, action_of, sink_of, taken_into, taken_at, taken_in, exchanged_to, advanced_of, gave, exchange_of}
 use Rattle.qspi.specs.declared.bus.Reply.{Reply}
 use Rattle.qspi.specs.declared.command.Command.{Command}
 use Rattle.qspi.specs.declared.transfer.Sink.{Sink}
@@ -16,7 +17,6 @@ use Rattle.qspi.specs.declared.transfer.Transfer.{Transfer}
 use Rattle.frames.specs.declared.frame.Advanced.{Advanced}
 use Rattle.frames.specs.declared.frame.Exchanged.{Exchanged}
 use Rattle.frames.specs.declared.frame.Frame.{Frame}
-use Rattle.frames.specs.declared.frame.Outcome.{Outcome}
 use Rattle.spi_flash.specs.declared.loan.Takes.{Takes}
 use Rattle.spi_flash.specs.declared.wait.Timings.{Timings}
 use Rattle.spi_flash.specs.Loan.{Lent}
@@ -112,9 +112,9 @@ module _ {S A C : Type 0} (Valid : S → Type 0) (next : S → Outcome → Decis
 
   over-keeps : (es : List (Event C)) → Keeps es → (s : S) (t : Transfer) (o : Outcome) (l : Lent) (buffer : List ℕ) → l.buffer ≡ buffer → Valid s → Bounded buffer_reads 0 (ask t (meaning s)) →
       KeepsBy es buffer (settle k (next s o) l)
-  over-keeps es ih s t (Outcome.Value v) l buffer e w h =
-      settled-keeps es ih (next s (Outcome.Value v)) l buffer e (sim.keeps s v w) (subst (Bounded buffer_reads 0) (sim.on_value s v w) (none-later t (meaning s) h v))
-  over-keeps es ih s t (Outcome.Failed code) l buffer e w h = rw (sim.on_failure s code) (e, rest-keeps es)
+  over-keeps es ih s t (Ok v) l buffer e w h =
+      settled-keeps es ih (next s (Ok v)) l buffer e (sim.keeps s v w) (subst (Bounded buffer_reads 0) (sim.on_value s v w) (none-later t (meaning s) h v))
+  over-keeps es ih s t (Err error) l buffer e w h = rw (sim.on_failure s error) (e, rest-keeps es)
 
   pub keeps-buffer : (es : List (Event C)) → Keeps es
   unfolding goes_on KeepsBuffer

@@ -1,8 +1,7 @@
 -- How each call begins, and how it is turned away (document 01, "Who can cause a refusal": 13, 14, 12, then the Rust's).
-use Rattle.std.specs.Prelude.{ℕ, Bool, true, false}
+use Rattle.std.specs.Prelude.{ℕ, Bool, true, false, Result, Ok, Err}
 use Rattle.qspi.specs.Choice.{pick}
 use Rattle.qspi.specs.declared.transfer.Transfer.{Transfer}
-use Rattle.spi_flash.specs.declared.entry.Entry.{Entry}
 use Rattle.spi_flash.specs.declared.error.FlashError.{FlashError}
 use Rattle.spi_flash.specs.declared.loan.Takes.{Takes}
 use Rattle.spi_flash.specs.Entry.{entry_of}
@@ -24,9 +23,9 @@ module _ {F S P A G : Type 0} (shape : Shape F S P A G) where
   told flash answer = pick (shape.built flash) (shape.ended flash answer) (shape.refused flash FlashError.OutOfTurn)
 
   -- a call that may begin comes to this
-  abbrev pub entered : F → Entry → G → G
-  entered flash Entry.Open x = x
-  entered flash (Entry.Shut error) x = shape.refused flash error
+  abbrev pub entered : F → Result (Unit {0}) FlashError → G → G
+  entered flash (Ok _) x = x
+  entered flash (Err error) x = shape.refused flash error
 
   -- a call that begins has delivered nothing yet
   abbrev pub fresh_call : F → F

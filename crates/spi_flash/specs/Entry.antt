@@ -1,13 +1,12 @@
 -- Whether a call that uses the bus may begin (document 01, "Who can cause a refusal").
-use Rattle.std.specs.Prelude.{ℕ, Bool, ltb}
+use Rattle.std.specs.Prelude.{ℕ, Bool, ltb, Result, Ok, Err}
 use Rattle.qspi.specs.Choice.{pick}
 use Rattle.qspi.specs.Command.{scratch_least}
-use Rattle.spi_flash.specs.declared.entry.Entry.{Entry}
 use Rattle.spi_flash.specs.declared.error.FlashError.{FlashError}
 
 -- 13 where the driver is not built, 14 for a scratch under 264, 12 for a device outside the bounds
-unfoldable pub entry_of : Bool → ℕ → Bool → Entry
+unfoldable pub entry_of : Bool → ℕ → Bool → Result (Unit {0}) FlashError
 entry_of built scratch in_bounds =
     pick built
-    (pick (ltb scratch scratch_least) (Entry.Shut FlashError.Misfit) (pick in_bounds Entry.Open (Entry.Shut FlashError.InvalidGeometry)))
-    (Entry.Shut FlashError.OutOfTurn)
+    (pick (ltb scratch scratch_least) (Err FlashError.Misfit) (pick in_bounds (Ok tt) (Err FlashError.InvalidGeometry)))
+    (Err FlashError.OutOfTurn)

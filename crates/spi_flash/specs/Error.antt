@@ -24,37 +24,11 @@ error_number FlashError.TapeSpent = 16
 -- "1 Spi, with its code": the values beside the number
 abbrev pub error_values : FlashError → List ℕ
 error_values (FlashError.Spi code) = code ∷ []
-error_values FlashError.Timeout = []
-error_values FlashError.NotAligned = []
-error_values FlashError.InvalidLength = []
-error_values FlashError.OutOfBounds = []
-error_values FlashError.VerifyFailed = []
-error_values FlashError.WriteEnableFailed = []
-error_values FlashError.UncorrectableEcc = []
-error_values FlashError.EraseFailed = []
-error_values FlashError.ProgramFailed = []
-error_values FlashError.NotSupported = []
-error_values FlashError.InvalidGeometry = []
-error_values FlashError.OutOfTurn = []
-error_values FlashError.Misfit = []
-error_values FlashError.MalformedTape = []
-error_values FlashError.TapeSpent = []
+error_values _ = []
 
 -- the Rust's FlashError::nor_flash_kind; the added refusals are Other
 abbrev pub kind_of : FlashError → NorFlashErrorKind
-kind_of (FlashError.Spi code) = NorFlashErrorKind.Other
-kind_of FlashError.Timeout = NorFlashErrorKind.Other
 kind_of FlashError.NotAligned = NorFlashErrorKind.NotAligned
 kind_of FlashError.InvalidLength = NorFlashErrorKind.NotAligned
 kind_of FlashError.OutOfBounds = NorFlashErrorKind.OutOfBounds
-kind_of FlashError.VerifyFailed = NorFlashErrorKind.Other
-kind_of FlashError.WriteEnableFailed = NorFlashErrorKind.Other
-kind_of FlashError.UncorrectableEcc = NorFlashErrorKind.Other
-kind_of FlashError.EraseFailed = NorFlashErrorKind.Other
-kind_of FlashError.ProgramFailed = NorFlashErrorKind.Other
-kind_of FlashError.NotSupported = NorFlashErrorKind.Other
-kind_of FlashError.InvalidGeometry = NorFlashErrorKind.Other
-kind_of FlashError.OutOfTurn = NorFlashErrorKind.Other
-kind_of FlashError.Misfit = NorFlashErrorKind.Other
-kind_of FlashError.MalformedTape = NorFlashErrorKind.Other
-kind_of FlashError.TapeSpent = NorFlashErrorKind.Other
+kind_of _ = NorFlashErrorKind.Other

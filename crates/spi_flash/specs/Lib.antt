@@ -1,4 +1,6 @@
 pub mod Error
+pub mod Number
+pub mod Range
 pub mod Bits
 pub mod Loan
 pub mod Entry

@@ -1,13 +1,13 @@
 -- The machine that the theory of runs is about, to which every driver comes down: a state that decides on the next transfer, and one
 -- frame of it on the bus.
-use Rattle.std.specs.Prelude.{ℕ, Bool, true, false, ◌≡◌, List, [], ◌∷◌}
+use Rattle.std.specs.Prelude.{ℕ, Bool, true, false, ◌≡◌, List, [], ◌∷◌, Ok, Err}
 use Rattle.qspi.specs.Choice.{pick}
 use Rattle.qspi.specs.Shown.{shown_of}
-use Rattle.frames.specs.Frame.{first_of, action_of, exchange_of}
+use Rattle.qspi.specs.declared.bus.BusError.{BusError}
+use Rattle.frames.specs.Frame.{Outcome, first_of, action_of, exchange_of}
 use Rattle.qspi.specs.declared.bus.Reply.{Reply}
 use Rattle.qspi.specs.declared.transfer.Transfer.{Transfer}
 use Rattle.frames.specs.declared.frame.Frame.{Frame}
-use Rattle.frames.specs.declared.frame.Outcome.{Outcome}
 use Rattle.frames.specs.declared.frame.Exchanged.{Exchanged}
 use Rattle.spi_flash.specs.declared.error.FlashError.{FlashError}
 use Rattle.spi_flash.specs.declared.loan.Takes.{Takes}
@@ -83,9 +83,9 @@ Onward Valid (bad e) = Unit {0}
 
 -- on the states that a call can come to, the machine does what is left of the program
 pub record Simulates {S A : Type 0} (Valid : S → Type 0) (next : S → Outcome → Decision S A) (meaning : S → ℕ → Prog A) : Type 0 where
-  pub on_value : (s : S) (v : ℕ) → Valid s → meaning s v ≡ tree meaning (next s (Outcome.Value v))
-  pub on_failure : (s : S) (code : ℕ) → next s (Outcome.Failed code) ≡ bad (FlashError.Spi code)
-  pub keeps : (s : S) (v : ℕ) → Valid s → Onward Valid (next s (Outcome.Value v))
+  pub on_value : (s : S) (v : ℕ) → Valid s → meaning s v ≡ tree meaning (next s (Ok v))
+  pub on_failure : (s : S) (error : BusError) → next s (Err error) ≡ bad (FlashError.Spi error.0)
+  pub keeps : (s : S) (v : ℕ) → Valid s → Onward Valid (next s (Ok v))
 
 -- ---- the path that a run takes through it
 

@@ -1,11 +1,11 @@
 -- The paths through a program: what every path keeps to, and what some path of fitting replies comes to.
-use Rattle.std.specs.Prelude.{ℕ, ◌+◌, ◌≤◌, ◌≡◌, List, [], ◌∷◌, ◌++◌, length}
+use Rattle.std.specs.Prelude.{ℕ, ◌+◌, ◌≤◌, ◌≡◌, List, [], ◌∷◌, ◌++◌, length, Ok, Err}
 use Rattle.qspi.specs.Bytes.{AllBytes}
-use Rattle.frames.specs.Frame.{value_of}
+use Rattle.qspi.specs.declared.bus.BusError.{BusError}
+use Rattle.frames.specs.Frame.{Outcome, value_of}
 use Rattle.qspi.specs.declared.transfer.Body.{Body}
 use Rattle.qspi.specs.declared.transfer.Transfer.{Transfer}
 use Rattle.qspi.specs.declared.transfer.Sink.{Sink}
-use Rattle.frames.specs.declared.frame.Outcome.{Outcome}
 use Rattle.spi_flash.specs.declared.error.FlashError.{FlashError}
 use Rattle.spi_flash.specs.Prog.{Prog, ret, fail, ask}
 
@@ -48,14 +48,14 @@ Every (ret a) Q = Q [] (done a)
 Every (fail e) Q = Q [] (failed e)
 Every (ask t k) Q =
     Q [] (going t) ×
-    ((code : ℕ) → Q (back t (Outcome.Failed code) ∷ []) (failed (FlashError.Spi code))) ×
-    ((v : ℕ) → Every (k v) (λ past end. Q (back t (Outcome.Value v) ∷ past) end))
+    ((error : BusError) → Q (back t (Err error) ∷ []) (failed (FlashError.Spi error.0))) ×
+    ((v : ℕ) → Every (k v) (λ past end. Q (back t (Ok v) ∷ past) end))
 
 -- some path of fitting replies goes to the call's end, and there Q holds
 abbrev pub Some : {A : Type 0} → List ℕ → Prog A → (List Past → End A → Type 0) → Type 0
 Some given (ret a) Q = Q [] (done a)
 Some given (fail e) Q = Q [] (failed e)
-Some given (ask t k) Q = (v : ℕ) × Fits given t v × Some given (k v) (λ past end. Q (back t (Outcome.Value v) ∷ past) end)
+Some given (ask t k) Q = (v : ℕ) × Fits given t v × Some given (k v) (λ past end. Q (back t (Ok v) ∷ past) end)
 
 -- ---- sums along a path
 

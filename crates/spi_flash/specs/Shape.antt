@@ -1,5 +1,5 @@
--- What both drivers are made of: a state in its parts, what a step gives, what follows a transfer and what a call is. Each driver
--- has structs and enums of its own for them; how a driver steps is said over them once (Settling, Beginning, Replying).
+-- What both drivers are made of: a state in its parts, what a step gives, what follows a transfer and what a call is. The code
+-- has structs and enums for them (machine); how a driver steps is said over what stands here (Settling, Beginning, Replying).
 use Rattle.std.specs.Prelude.{ℕ, Bool}
 use Rattle.frames.specs.declared.frame.Frame.{Frame}
 use Rattle.qspi.specs.declared.bus.Action.{Action}

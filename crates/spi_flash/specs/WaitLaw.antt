@@ -1,11 +1,10 @@
 -- The wait in general: any first delay, any limit, any poll delay of at least 1 (document 01, "Wait limits", and "The
 -- strength of each contract", 4). Over the command that asks for status and the test that tells busy.
-use Rattle.std.specs.Prelude.{ℕ, zero, suc, ◌+◌, ◌-◌, ◌*◌, ◌/◌, ◌≤◌, ◌<◌, Bool, true, false, not, ◌≡◌, List, [], ◌∷◌, leb, if◌then◌else◌}
+use Rattle.std.specs.Prelude.{ℕ, zero, suc, ◌+◌, ◌-◌, ◌*◌, ◌/◌, ◌≤◌, ◌<◌, Bool, true, false, not, ◌≡◌, List, [], ◌∷◌, leb, if◌then◌else◌, Ok, Err}
 use Rattle.qspi.specs.declared.command.Command.{Command}
 use Rattle.qspi.specs.declared.transfer.Sink.{Sink}
 use Rattle.qspi.specs.declared.transfer.Body.{Body}
 use Rattle.qspi.specs.declared.transfer.Transfer.{Transfer}
-use Rattle.frames.specs.declared.frame.Outcome.{Outcome}
 use Rattle.spi_flash.specs.declared.error.FlashError.{FlashError}
 use Rattle.spi_flash.specs.declared.wait.Timings.{Timings}
 use Rattle.spi_flash.specs.Prog.{Prog, ret, fail, ◌>>=◌, ◌>>◌, transfer}
@@ -111,13 +110,13 @@ module _ (busy : ℕ → Bool) (limit : ℕ) where
   TakesTurns looking sum seen [] (going t) = OnlyLook (wait_step t) (Unit {0})
   TakesTurns looking sum seen [] (done u) = ⊥
   TakesTurns looking sum seen [] (failed e) = ⊥
-  TakesTurns looking sum seen (back t (Outcome.Value v) ∷ past) end = OnlyLook (wait_step t) (TakesTurns pausing sum v past end)
-  TakesTurns looking sum seen (back t (Outcome.Failed code) ∷ past) end = end ≡ failed (FlashError.Spi code)
+  TakesTurns looking sum seen (back t (Ok v) ∷ past) end = OnlyLook (wait_step t) (TakesTurns pausing sum v past end)
+  TakesTurns looking sum seen (back t (Err error) ∷ past) end = end ≡ failed (FlashError.Spi error.0)
   TakesTurns pausing sum seen [] (going t) = OnlyPause (wait_step t) (λ us. (busy seen ≡ true) × (sum < limit))
   TakesTurns pausing sum seen [] (done u) = busy seen ≡ false
   TakesTurns pausing sum seen [] (failed e) = (e ≡ FlashError.Timeout) × (busy seen ≡ true) × (limit ≤ sum)
-  TakesTurns pausing sum seen (back t (Outcome.Value v) ∷ past) end = OnlyPause (wait_step t) (λ us. TakesTurns looking (sum + us) seen past end)
-  TakesTurns pausing sum seen (back t (Outcome.Failed code) ∷ past) end = end ≡ failed (FlashError.Spi code)
+  TakesTurns pausing sum seen (back t (Ok v) ∷ past) end = OnlyPause (wait_step t) (λ us. TakesTurns looking (sum + us) seen past end)
+  TakesTurns pausing sum seen (back t (Err error) ∷ past) end = end ≡ failed (FlashError.Spi error.0)
 
 -- what document 01 says of a wait p over a row of a table
 pub record WaitLaw (status : Command) (busy : ℕ → Bool) (t : Timings) (p : Prog (Unit {0})) : Type 0 where

@@ -2,6 +2,8 @@
 ghost use Rattle.std.specs.Prelude.{◌≡◌};
 ghost use Rattle.spi_flash.specs.Error.{error_number, kind_of};
 
+use qspi::bus::BusError;
+
 #[derive(Clone, Copy)]
 pub enum FlashError {
     // The bus failed, with its code.
@@ -40,7 +42,7 @@ pub enum NorFlashErrorKind {
 }
 
 impl FlashError {
-    // The number of document 01.
+    // The number of document 01. No discriminant has it: Spi carries its code.
     pub fn number(self) -> u8
         ensures { result ≡ error_number self }
     {
@@ -68,22 +70,22 @@ impl FlashError {
         ensures { result ≡ kind_of self }
     {
         match self {
-            FlashError::Spi(_) => NorFlashErrorKind::Other,
-            FlashError::Timeout => NorFlashErrorKind::Other,
-            FlashError::NotAligned => NorFlashErrorKind::NotAligned,
-            FlashError::InvalidLength => NorFlashErrorKind::NotAligned,
+            FlashError::NotAligned | FlashError::InvalidLength => NorFlashErrorKind::NotAligned,
             FlashError::OutOfBounds => NorFlashErrorKind::OutOfBounds,
-            FlashError::VerifyFailed => NorFlashErrorKind::Other,
-            FlashError::WriteEnableFailed => NorFlashErrorKind::Other,
-            FlashError::UncorrectableEcc => NorFlashErrorKind::Other,
-            FlashError::EraseFailed => NorFlashErrorKind::Other,
-            FlashError::ProgramFailed => NorFlashErrorKind::Other,
-            FlashError::NotSupported => NorFlashErrorKind::Other,
-            FlashError::InvalidGeometry => NorFlashErrorKind::Other,
-            FlashError::OutOfTurn => NorFlashErrorKind::Other,
-            FlashError::Misfit => NorFlashErrorKind::Other,
-            FlashError::MalformedTape => NorFlashErrorKind::Other,
-            FlashError::TapeSpent => NorFlashErrorKind::Other,
+            _ => NorFlashErrorKind::Other,
         }
+    }
+}
+
+// A failed bus call ends the driver's call.
+impl From<BusError> for FlashError {
+    ghost use Rattle.spi_flash.specs.declared.error.FlashError.{FlashError};
+
+    ghost from_gives = { λ error made. made ≡ FlashError.Spi error.0 };
+
+    fn from(error: BusError) -> FlashError
+        ensures { result ≡ FlashError.Spi error.0 }
+    {
+        FlashError::Spi(error.0)
     }
 }

@@ -4,4 +4,6 @@
 pub mod entry;
 pub mod error;
 pub mod loan;
+pub mod number;
+pub mod range;
 pub mod wait;

@@ -1,4 +1,5 @@
-// What a host lends at each step of a call.
+// What a host lends at each step of a call: scratch, buffer and data, as three slices, for a struct of them would put borrows of borrows
+// into each contract.
 ghost use Rattle.std.specs.Prelude.{◌≡◌};
 ghost use Rattle.frames.specs.Frame.{exchanged_to};
 ghost use Rattle.spi_flash.specs.Loan.{ready_of, exchange_for};
@@ -17,21 +18,21 @@ pub enum Takes {
 }
 
 // Whether the lengths lent are fit for a step of the call.
+#[tactic(auto, unfolding(crate::specs::Loan::ready_of))]
 pub fn ready(takes: Takes, scratch_len: usize, buffer_len: usize, data_len: usize) -> bool
     ensures { result ≡ ready_of takes scratch_len buffer_len data_len }
 {
-    if scratch_len < SCRATCH_LEN {
-        return false;
-    }
-    match takes {
-        Takes::Nothing => true,
-        Takes::Buffer(n) => buffer_len == n,
-        Takes::Data(n) => data_len == n,
-    }
+    SCRATCH_LEN <= scratch_len
+        && match takes {
+            Takes::Nothing => true,
+            Takes::Buffer(n) => buffer_len == n,
+            Takes::Data(n) => data_len == n,
+        }
 }
 
 // One reply to the action that is out, in a call that takes this. What is lent and not fit for it changes nothing, like a reply that
 // does not fit.
+#[tactic(auto, unfolding(crate::specs::Loan::exchange_for))]
 pub fn exchange(
     takes: Takes,
     frame: Frame,
@@ -43,8 +44,8 @@ pub fn exchange(
 ) -> Exchanged
     ensures { exchanged_to result scratch.new buffer.new ≡ exchange_for takes frame reply bytes.now scratch.old buffer.old «data».now }
 {
-    if ready(takes, scratch.len(), buffer.len(), data.len()) {
-        return exchange::exchange(frame, reply, bytes, scratch, buffer, data);
+    if !ready(takes, scratch.len(), buffer.len(), data.len()) {
+        return Exchanged::Misfit;
     }
-    Exchanged::Misfit
+    exchange::exchange(frame, reply, bytes, scratch, buffer, data)
 }

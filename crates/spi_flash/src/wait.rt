@@ -38,25 +38,18 @@ pub fn begin(timings: Timings) -> Wait
 }
 
 // What follows a look, after delays of `waited` in all.
+#[tactic(auto, unfolding(crate::specs::Wait::next_wait))]
 pub fn after_look(timings: Timings, waited: u32, busy: bool) -> Wait
     ensures { result ≡ next_wait timings waited busy }
 {
-    let poll = timings.poll_us;
-    if busy {
-        if timings.timeout_us <= waited {
-            return Wait::Timeout;
-        }
-        if poll <= 4294967295 - waited {
-            return Wait::Pause {
-                us: poll,
-                waited: waited + poll,
-            };
-        }
-        Wait::Pause {
-            us: poll,
-            waited: 4294967295,
-        }
-    } else {
-        Wait::Ready
+    if !busy {
+        return Wait::Ready;
+    }
+    if timings.timeout_us <= waited {
+        return Wait::Timeout;
+    }
+    Wait::Pause {
+        us: timings.poll_us,
+        waited: waited.saturating_add(timings.poll_us),
     }
 }

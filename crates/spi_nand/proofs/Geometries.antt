@@ -5,12 +5,12 @@ use mathlib.Core.Bool.{Bool, true, ◌&&◌}
 use mathlib.Core.List.{List, [], ◌∷◌}
 use native.Mathlib.Omega.{arith}
 use native.Mathlib.Nat.{mul_assoc, mul-le-mul, le-mul_of_pos_right}
-use lib.Dec.{leb, eqb}
+use lib.Dec.{leb}
 use borrow.Author.Tests.{leb-true}
 use Rattle.qspi.proofs.Tests.{tests}
 use Rattle.qspi.proofs.Cases.{by_cases}
 use Rattle.spi_flash.proofs.Table.{both, every}
-use Rattle.spi_nand.specs.Config.{block_size_of, page_count_of, capacity_of, in_bounds, KnownNand, known_nand_devices, geometry_in, from_jedec}
+use Rattle.spi_nand.specs.Config.{block_size_of, page_count_of, capacity_of, in_bounds, KnownNand, known_nand_devices, same_id, geometry_in, from_jedec}
 use Rattle.spi_nand.specs.Geometries.{Bounded, Exact, Supported, GeometriesHold}
 use Rattle.spi_nand.specs.declared.config.NandJedecId.{NandJedecId}
 use Rattle.spi_nand.specs.declared.config.NandGeometry.{NandGeometry}
@@ -68,14 +68,14 @@ abbrev supported : NandGeometry → Bool
 supported g = in_bounds g && leb g.page_size 4096
 
 abbrev supported_row : KnownNand → Bool
-supported_row k = supported k.geometry
+supported_row k = supported k.1
 
 from-rows : (rows : List KnownNand) (id : NandJedecId) → every supported_row rows ≡ true → supported (geometry_in rows id) ≡ true
 unfolding in_bounds
 from-rows [] id t = refl
 from-rows (k ∷ ks) id t =
     let each = both (supported_row k) (every supported_row ks) t in
-    by_cases (eqb id.manufacturer k.manufacturer && eqb id.device k.device)
+    by_cases (same_id id k.0)
     (λ e. rw e each.0)
     (λ e. rw e (from-rows ks id each.1))
 

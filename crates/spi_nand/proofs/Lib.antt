@@ -1,5 +1,4 @@
 pub mod WaitTable
 pub mod Saturating
-pub mod Known
 pub mod Geometries
 pub mod DatasheetAgrees

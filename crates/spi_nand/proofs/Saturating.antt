@@ -1,19 +1,12 @@
 -- Products that stop at the largest usize.
-use Prim.Native.Nat.{ℕ, zero, suc, ◌*◌, ◌/◌, ◌≤◌, ◌<◌}
+use Prim.Native.Nat.{ℕ, zero, suc, ◌*◌, ◌≤◌, ◌<◌}
 use mathlib.Core.Path.{◌≡◌, sym, ◌∙◌}
 use native.Mathlib.Omega.{arith}
-use native.Mathlib.Nat.{le-div_iff_mul-le, div-lt_iff_lt-mul, mul-le-mul_right, le-mul_of_pos_right}
+use native.Mathlib.Nat.{mul-le-mul_right, le-mul_of_pos_right}
 use lib.Dec.{leb}
 use borrow.Author.Tests.{le-leb, lt-leb}
 use Rattle.qspi.proofs.Cases.{by_order}
 use Rattle.spi_nand.specs.Config.{usize_max, saturating}
-
--- the quotient by b tells whether the product with b fits
-pub product-fits : (a b : ℕ) → 0 < b → a ≤ usize_max / b → a * b ≤ usize_max
-product-fits a b pos h = (le-div_iff_mul-le pos).0 h
-
-pub product-over : (a b : ℕ) → 0 < b → usize_max / b < a → usize_max < a * b
-product-over a b pos h = (div-lt_iff_lt-mul pos).0 h
 
 pub exact : (n : ℕ) → n ≤ usize_max → saturating n ≡ n
 exact n h = omega arith

@@ -1,13 +1,11 @@
 -- Geometry and settings (document 01, "Geometry"; nand/config.rs).
-use Rattle.std.specs.Prelude.{ℕ, ◌+◌, ◌-◌, ◌*◌, ◌^◌, min, Bool, ◌&&◌, List, [], ◌∷◌, get_or, leb, eqb}
+use Rattle.std.specs.Prelude.{ℕ, ◌+◌, ◌-◌, ◌*◌, ◌^◌, min, Bool, false, ◌&&◌, List, [], ◌∷◌, get_or, leb, eqb, Some, None}
 use Rattle.qspi.specs.Choice.{pick}
 use Rattle.spi_nand.specs.Opcode.{QUAD-READ-CACHE, QUAD-LOAD-PROGRAM-DATA}
 use Rattle.spi_nand.specs.Status.{configuration_of, protection_of}
 use Rattle.spi_nand.specs.declared.config.NandJedecId.{NandJedecId}
 use Rattle.spi_nand.specs.declared.config.NandGeometry.{NandGeometry}
 use Rattle.spi_nand.specs.declared.config.NandQuadConfig.{NandQuadConfig}
-use Rattle.spi_nand.specs.declared.config.QuadSetting.{QuadSetting}
-use Rattle.spi_nand.specs.declared.config.GeometrySetting.{GeometrySetting}
 use Rattle.spi_nand.specs.declared.config.SpiNandConfig.{SpiNandConfig}
 use Rattle.spi_nand.specs.declared.config.NandInit.{NandInit}
 
@@ -66,13 +64,11 @@ in_bounds g =
 -- ---- known ids
 
 -- a row of the Rust's KNOWN_NAND_DEVICES
-pub record KnownNand : Type 0 where
-  pub manufacturer : ℕ
-  pub device : ℕ
-  pub geometry : NandGeometry
+abbrev pub KnownNand : Type 0
+KnownNand = NandJedecId × NandGeometry
 
 abbrev pub known : ℕ → ℕ → NandGeometry → KnownNand
-known m d g = record { manufacturer = m; device = d; geometry = g }
+known m d g = (record { manufacturer = m; device = d }, g)
 
 -- departs from the datasheets: this id is a W25M02GV's, and a W25N02KV answers EF AA 22
 abbrev pub rust_w25n02kv : KnownNand
@@ -86,11 +82,14 @@ known_nand_devices =
     ∷ known 0xC8 0xF148 W25N01GV
     ∷ []
 
+abbrev pub same_id : NandJedecId → NandJedecId → Bool
+same_id a b = pick (eqb a.manufacturer b.manufacturer) (eqb a.device b.device) false
+
 -- "The ids in KNOWN_NAND_DEVICES choose; an unknown NAND is a W25N01GV"
 abbrev pub geometry_in : List KnownNand → NandJedecId → NandGeometry
 geometry_in [] id = W25N01GV
 geometry_in (k ∷ ks) id =
-    pick (eqb id.manufacturer k.manufacturer && eqb id.device k.device) k.geometry (geometry_in ks id)
+    pick (same_id id k.0) k.1 (geometry_in ks id)
 
 unfoldable pub from_jedec : NandJedecId → NandGeometry
 from_jedec id = geometry_in known_nand_devices id
@@ -109,10 +108,10 @@ QUAD-W25N01GV =
 
 -- the Rust's `None` and `Some`
 abbrev pub single_config : SpiNandConfig
-single_config = record { quad = QuadSetting.Single; geometry = GeometrySetting.Detect }
+single_config = record { quad = None; geometry = None }
 
 abbrev pub quad_config : NandQuadConfig → SpiNandConfig
-quad_config q = record { quad = QuadSetting.Quad q; geometry = GeometrySetting.Detect }
+quad_config q = record { quad = Some q; geometry = None }
 
 -- the Rust's NandInit::UNKNOWN
 abbrev pub UNKNOWN : NandInit

@@ -1,24 +1,25 @@
 // Geometry and settings of a SPI NAND (nand/config.rs).
 ghost use Rattle.std.specs.Prelude.{◌≡◌, ◌*◌};
-ghost use Rattle.spi_nand.specs.Config.{jedec_id_of, saturating, block_size_of, page_count_of, capacity_of, cache_size_of, first_page_of, in_bounds, from_jedec, QUAD-W25N01GV, single_config, quad_config};
+ghost use Rattle.spi_nand.specs.Config.{jedec_id_of, block_size_of, page_count_of, capacity_of, cache_size_of, first_page_of, in_bounds, from_jedec, QUAD-W25N01GV, single_config, quad_config};
 
 use crate::opcode;
 use crate::status::{Configuration, Protection};
 
 // What READ ID answers.
-#[derive(Clone, Copy)]
+#[derive(Clone, Copy, PartialEq, Eq)]
 pub struct NandJedecId {
     pub manufacturer: u8,
     pub device: u16,
 }
 
 impl NandJedecId {
+    #[tactic(auto, unfolding(crate::specs::Config::jedec_id_of))]
     pub fn from_bytes(bytes: [u8; 3]) -> Self
         ensures { result ≡ jedec_id_of bytes }
     {
         Self {
             manufacturer: bytes[0],
-            device: bytes[1] as u16 * 256 + bytes[2] as u16,
+            device: u16::from_be_bytes([bytes[1], bytes[2]]),
         }
     }
 }
@@ -33,36 +34,35 @@ pub struct NandGeometry {
     pub block_count: usize,
 }
 
-// A row: manufacturer, device, and the four numbers of the geometry.
-const KNOWN_NAND_ROW: usize = 6;
-
-const KNOWN_NAND_COUNT: usize = 4;
-
-const KNOWN_NAND_DEVICES: [usize; KNOWN_NAND_COUNT * KNOWN_NAND_ROW] = [
-    0xEF,
-    0xAA21,
-    NandGeometry::W25N01GV.page_size,
-    NandGeometry::W25N01GV.oob_size,
-    NandGeometry::W25N01GV.pages_per_block,
-    NandGeometry::W25N01GV.block_count,
-    0xEF,
-    0xAB21,
-    NandGeometry::W25N02KV.page_size,
-    NandGeometry::W25N02KV.oob_size,
-    NandGeometry::W25N02KV.pages_per_block,
-    NandGeometry::W25N02KV.block_count,
-    0xC8,
-    0xD148,
-    NandGeometry::W25N01GV.page_size,
-    NandGeometry::W25N01GV.oob_size,
-    NandGeometry::W25N01GV.pages_per_block,
-    NandGeometry::W25N01GV.block_count,
-    0xC8,
-    0xF148,
-    NandGeometry::W25N01GV.page_size,
-    NandGeometry::W25N01GV.oob_size,
-    NandGeometry::W25N01GV.pages_per_block,
-    NandGeometry::W25N01GV.block_count,
+const KNOWN_NAND_DEVICES: [(NandJedecId, NandGeometry); 4] = [
+    (
+        NandJedecId {
+            manufacturer: 0xEF,
+            device: 0xAA21,
+        },
+        NandGeometry::W25N01GV,
+    ),
+    (
+        NandJedecId {
+            manufacturer: 0xEF,
+            device: 0xAB21,
+        },
+        NandGeometry::W25N02KV,
+    ),
+    (
+        NandJedecId {
+            manufacturer: 0xC8,
+            device: 0xD148,
+        },
+        NandGeometry::W25N01GV,
+    ),
+    (
+        NandJedecId {
+            manufacturer: 0xC8,
+            device: 0xF148,
+        },
+        NandGeometry::W25N01GV,
+    ),
 ];
 
 // The bounds of a caller's own geometry: a column goes out in two bytes, a page in three.
@@ -70,20 +70,7 @@ const MAX_PAGE_AND_OOB: usize = 65_535;
 
 const MAX_PAGE_COUNT: usize = 16_777_216;
 
-// The product, or the largest usize where it is more.
-fn saturating_mul(a: usize, b: usize) -> usize
-    ensures { result ≡ saturating (a * b) }
-{
-    if b == 0 {
-        return 0;
-    }
-    if a <= usize::MAX / b {
-        a * b
-    } else {
-        usize::MAX
-    }
-}
-
+// A product that is too large stops at the largest usize.
 impl NandGeometry {
     pub const W25N01GV: Self = Self {
         page_size: 2048,
@@ -100,83 +87,64 @@ impl NandGeometry {
     };
 
     // Bytes of an erase block.
+    #[tactic(auto, unfolding(crate::specs::Config::block_size_of))]
     pub fn block_size(self) -> usize
         ensures { result ≡ block_size_of self }
     {
-        saturating_mul(self.page_size, self.pages_per_block)
+        self.page_size.saturating_mul(self.pages_per_block)
     }
 
+    #[tactic(auto, unfolding(crate::specs::Config::page_count_of))]
     pub fn page_count(self) -> usize
         ensures { result ≡ page_count_of self }
     {
-        saturating_mul(self.pages_per_block, self.block_count)
+        self.pages_per_block.saturating_mul(self.block_count)
     }
 
     // Main bytes of the whole device.
+    #[tactic(auto, using(crate::proofs::Saturating::twice), unfolding(crate::specs::Config::capacity_of, crate::specs::Config::block_size_of))]
     pub fn capacity(self) -> usize
         ensures { result ≡ capacity_of self }
     {
-        saturating_mul(self.block_size(), self.block_count)
+        self.block_size().saturating_mul(self.block_count)
     }
 
     // Bytes of the cache: a page and its spare bytes.
+    #[tactic(auto, unfolding(crate::specs::Config::cache_size_of))]
     pub fn cache_size(self) -> usize
         ensures { result ≡ cache_size_of self }
     {
-        if self.page_size <= usize::MAX - self.oob_size {
-            self.page_size + self.oob_size
-        } else {
-            usize::MAX
-        }
+        self.page_size.saturating_add(self.oob_size)
     }
 
     // The first page of a block.
+    #[tactic(auto, unfolding(crate::specs::Config::first_page_of))]
     pub fn first_page(self, block: usize) -> usize
         ensures { result ≡ first_page_of self block }
     {
-        saturating_mul(block, self.pages_per_block)
+        block.saturating_mul(self.pages_per_block)
     }
 
     // Whether the driver takes this geometry from a caller.
+    #[tactic(auto, using(crate::proofs::Saturating::below), unfolding(crate::specs::Config::in_bounds, crate::specs::Config::page_count_of, crate::specs::Config::cache_size_of))]
     pub fn in_bounds(self) -> bool
         ensures { result ≡ in_bounds self }
     {
-        if self.page_size < 1 {
-            return false;
-        }
-        if self.pages_per_block < 1 {
-            return false;
-        }
-        if self.block_count < 1 {
-            return false;
-        }
-        if MAX_PAGE_AND_OOB < self.page_size {
-            return false;
-        }
-        if MAX_PAGE_AND_OOB - self.page_size < self.oob_size {
-            return false;
-        }
-        self.page_count() <= MAX_PAGE_COUNT
+        self.page_size >= 1
+            && self.pages_per_block >= 1
+            && self.block_count >= 1
+            && self.cache_size() <= MAX_PAGE_AND_OOB
+            && self.page_count() <= MAX_PAGE_COUNT
     }
 
     // The geometry of a known id, else that of a W25N01GV.
     pub fn from_jedec(id: NandJedecId) -> Self
         ensures { result ≡ from_jedec id }
     {
-        let mut idx = 0;
-        while idx < KNOWN_NAND_COUNT {
-            let row = idx * KNOWN_NAND_ROW;
-            let mfg = KNOWN_NAND_DEVICES[row];
-            let dev = KNOWN_NAND_DEVICES[row + 1];
-            if id.manufacturer as usize == mfg && id.device as usize == dev {
-                return Self {
-                    page_size: KNOWN_NAND_DEVICES[row + 2],
-                    oob_size: KNOWN_NAND_DEVICES[row + 3],
-                    pages_per_block: KNOWN_NAND_DEVICES[row + 4],
-                    block_count: KNOWN_NAND_DEVICES[row + 5],
-                };
+        for (known, geometry) in KNOWN_NAND_DEVICES {
+            if known == id {
+                return geometry;
             }
-            idx += 1;
         }
         Self::W25N01GV
     }
@@ -200,32 +168,22 @@ impl NandQuadConfig {
         load_program_opcode: opcode::QUAD_LOAD_PROGRAM_DATA,
         dummy_margin: 0,
     };
+}
 
-    pub fn default() -> Self
-        ensures { result ≡ QUAD-W25N01GV }
-    {
+impl Default for NandQuadConfig {
+    ghost is_default = { λ q. q ≡ QUAD-W25N01GV };
+
+    fn default() -> Self {
         Self::W25N01GV
     }
 }
 
-#[derive(Clone, Copy)]
-pub enum QuadSetting {
-    // One data line.
-    Single,
-    Quad(NandQuadConfig),
-}
-
-#[derive(Clone, Copy)]
-pub enum GeometrySetting {
-    // By the id that the part answers.
-    Detect,
-    Given(NandGeometry),
-}
-
-#[derive(Clone, Copy)]
+#[derive(Clone, Copy, Default)]
 pub struct SpiNandConfig {
-    pub quad: QuadSetting,
-    pub geometry: GeometrySetting,
+    // None for one data line.
+    pub quad: Option<NandQuadConfig>,
+    // None to go by the id that the part answers.
+    pub geometry: Option<NandGeometry>,
 }
 
 impl SpiNandConfig {
@@ -233,8 +191,8 @@ impl SpiNandConfig {
         ensures { result ≡ single_config }
     {
         Self {
-            quad: QuadSetting::Single,
-            geometry: GeometrySetting::Detect,
+            quad: None,
+            geometry: None,
         }
     }
 
@@ -242,15 +200,9 @@ impl SpiNandConfig {
         ensures { result ≡ quad_config quad }
     {
         Self {
-            quad: QuadSetting::Quad(quad),
-            geometry: GeometrySetting::Detect,
+            quad: Some(quad),
+            geometry: None,
         }
-    }
-
-    pub fn default() -> Self
-        ensures { result ≡ single_config }
-    {
-        Self::single()
     }
 }
 

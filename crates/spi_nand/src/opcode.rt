@@ -1,8 +1,8 @@
 // Opcodes, register addresses and wait limits (nand/opcode.rs).
-ghost use Rattle.std.specs.Prelude.{◌≡◌, ◌<◌};
-ghost use Rattle.spi_nand.specs.Opcode.{row_of, timings_of};
+ghost use Rattle.std.specs.Prelude.{◌≡◌};
+ghost use Rattle.spi_nand.specs.Opcode.{timings_of};
 
-use spi_flash::wait;
+use spi_flash::wait::Timings;
 
 pub const RESET: u8 = 0xFF;
 // Followed by a dummy byte.
@@ -45,51 +45,35 @@ pub enum Operation {
     WriteRegister,
 }
 
-// A row for each operation, in microseconds.
-const WAIT_LIMITS: [wait::Timings; 5] = [
-    wait::Timings {
-        initial_us: 10,
-        poll_us: 10,
-        timeout_us: 500_000,
-    },
-    wait::Timings {
-        initial_us: 10,
-        poll_us: 10,
-        timeout_us: 400_000,
-    },
-    wait::Timings {
-        initial_us: 75,
-        poll_us: 15,
-        timeout_us: 400_000,
-    },
-    wait::Timings {
-        initial_us: 250,
-        poll_us: 50,
-        timeout_us: 400_000,
-    },
-    wait::Timings {
-        initial_us: 10,
-        poll_us: 10,
-        timeout_us: 10_000,
-    },
-];
-
-fn row(operation: Operation) -> usize
-    ensures value { result ≡ row_of operation }
-    ensures upper_bound { result < 5 }
-{
-    match operation {
-        Operation::Reset => 0,
-        Operation::PageRead => 1,
-        Operation::Program => 2,
-        Operation::Erase => 3,
-        Operation::WriteRegister => 4,
-    }
-}
-
-pub fn timings(operation: Operation) -> wait::Timings
+#[tactic(auto, unfolding(crate::specs::Opcode::timings_of))]
+pub fn timings(operation: Operation) -> Timings
     ensures { result ≡ timings_of operation }
 {
-    let row = row(operation);
-    WAIT_LIMITS[row]
+    match operation {
+        Operation::Reset => Timings {
+            initial_us: 10,
+            poll_us: 10,
+            timeout_us: 500_000,
+        },
+        Operation::PageRead => Timings {
+            initial_us: 10,
+            poll_us: 10,
+            timeout_us: 400_000,
+        },
+        Operation::Program => Timings {
+            initial_us: 75,
+            poll_us: 15,
+            timeout_us: 400_000,
+        },
+        Operation::Erase => Timings {
+            initial_us: 250,
+            poll_us: 50,
+            timeout_us: 400_000,
+        },
+        Operation::WriteRegister => Timings {
+            initial_us: 10,
+            poll_us: 10,
+            timeout_us: 10_000,
+        },
+    }
 }

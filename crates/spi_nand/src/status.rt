@@ -1,6 +1,7 @@
-// The feature registers C0, B0 and A0, decoded (nand/status.rs).
+// The feature registers C0, B0 and A0, decoded (nand/status.rs). Three types, each with its own from_byte, byte and tests of a mask:
+// these are the names and the structure of the Rust.
 ghost use Rattle.std.specs.Prelude.{◌≡◌};
-ghost use Rattle.spi_nand.specs.Status.{status_of, status_byte, busy_of, write_enabled_of, erase_failed_of, program_failed_of, verdict_of, configuration_of, configuration_byte, ecc_enabled_of, buffer_read_of, otp_enabled_of, quad_enabled_of, with_bits, same_configuration, protection_of, protection_byte, block_protect_bits, is_unlocked};
+ghost use Rattle.spi_nand.specs.Status.{status_of, status_byte, busy_of, write_enabled_of, erase_failed_of, program_failed_of, verdict_of, configuration_of, configuration_byte, ecc_enabled_of, buffer_read_of, otp_enabled_of, quad_enabled_of, with_bits, protection_of, protection_byte, block_protect_bits, is_unlocked};
 
 // The status register (C0).
 #[derive(Clone, Copy)]
@@ -30,30 +31,35 @@ impl Status {
         self.0
     }
 
+    #[tactic(auto, unfolding(crate::specs::Status::busy_of))]
     pub fn busy(self) -> bool
         ensures { result ≡ busy_of self }
     {
         self.0 & Self::BUSY != 0
     }
 
+    #[tactic(auto, unfolding(crate::specs::Status::write_enabled_of))]
     pub fn write_enabled(self) -> bool
         ensures { result ≡ write_enabled_of self }
     {
         self.0 & Self::WRITE_ENABLED != 0
     }
 
+    #[tactic(auto, unfolding(crate::specs::Status::erase_failed_of))]
     pub fn erase_failed(self) -> bool
         ensures { result ≡ erase_failed_of self }
     {
         self.0 & Self::ERASE_FAILED != 0
     }
 
+    #[tactic(auto, unfolding(crate::specs::Status::program_failed_of))]
     pub fn program_failed(self) -> bool
         ensures { result ≡ program_failed_of self }
     {
         self.0 & Self::PROGRAM_FAILED != 0
     }
 
+    #[tactic(auto, unfolding(crate::specs::Status::verdict_of))]
     pub fn ecc_verdict(self) -> EccVerdict
         ensures { result ≡ verdict_of self }
     {
@@ -77,7 +83,7 @@ pub enum EccVerdict {
 }
 
 // The configuration register (B0).
-#[derive(Clone, Copy)]
+#[derive(Clone, Copy, PartialEq, Eq)]
 pub struct Configuration(u8);
 
 impl Configuration {
@@ -91,7 +97,7 @@ impl Configuration {
 
     // The mode that the driver works in.
     pub const OPERATIONAL: Self = Self(Self::ECC_ENABLE | Self::BUFFER_READ);
-    // For constants, whose values call no function.
+    // A constant's value calls no function, so not even from_byte.
     pub const ZERO: Self = Self(0);
 
     pub fn from_byte(byte: u8) -> Self
@@ -106,24 +112,28 @@ impl Configuration {
         self.0
     }
 
+    #[tactic(auto, unfolding(crate::specs::Status::ecc_enabled_of))]
     pub fn ecc_enabled(self) -> bool
         ensures { result ≡ ecc_enabled_of self }
     {
         self.0 & Self::ECC_ENABLE != 0
     }
 
+    #[tactic(auto, unfolding(crate::specs::Status::buffer_read_of))]
     pub fn buffer_read(self) -> bool
         ensures { result ≡ buffer_read_of self }
     {
         self.0 & Self::BUFFER_READ != 0
     }
 
+    #[tactic(auto, unfolding(crate::specs::Status::otp_enabled_of))]
     pub fn otp_enabled(self) -> bool
         ensures { result ≡ otp_enabled_of self }
     {
         self.0 & Self::OTP_ENABLE != 0
     }
 
+    #[tactic(auto, unfolding(crate::specs::Status::quad_enabled_of))]
     pub fn quad_enabled(self) -> bool
         ensures { result ≡ quad_enabled_of self }
     {
@@ -131,17 +141,11 @@ impl Configuration {
     }
 
     // A copy with the bits of the mask taken from the value.
+    #[tactic(auto, unfolding(crate::specs::Status::with_bits))]
     pub fn with_bits(self, mask: u8, value: u8) -> Self
         ensures { result ≡ with_bits self mask value }
     {
         Self((self.0 & !mask) | (mask & value))
-    }
-
-    // The Rust compares two configurations with `!=`.
-    pub fn same(self, other: Configuration) -> bool
-        ensures { result ≡ same_configuration self other }
-    {
-        self.0 == other.0
     }
 }
 
@@ -152,7 +156,7 @@ pub struct Protection(u8);
 impl Protection {
     // Bits 6 to 3: which blocks are locked.
     pub const BLOCK_PROTECT_MASK: u8 = 0b1111 << 3;
-    // For constants, whose values call no function.
+    // A constant's value calls no function, so not even from_byte.
     pub const ZERO: Self = Self(0);
 
     pub fn from_byte(byte: u8) -> Self
@@ -167,6 +171,7 @@ impl Protection {
         self.0
     }
 
+    #[tactic(auto, unfolding(crate::specs::Status::block_protect_bits))]
     pub fn block_protect_bits(self) -> u8
         ensures { result ≡ block_protect_bits self }
     {
@@ -174,6 +179,7 @@ impl Protection {
     }
 
     // Whether no block is locked.
+    #[tactic(auto, unfolding(crate::specs::Status::is_unlocked))]
     pub fn is_unlocked(self) -> bool
         ensures { result ≡ is_unlocked self }
     {

@@ -8,7 +8,7 @@ use Rattle.qspi.proofs.Addresses.{address-bytes}
 use Rattle.spi_flash.specs.Bits.{bit, is_set}
 use Rattle.spi_flash.proofs.Bits.{any-bit}
 use Rattle.spi_nor.specs.Opcode.{PAGE-PROGRAM, SECTOR-ERASE, BLOCK-ERASE, READ, timings_of}
-use Rattle.spi_nor.specs.Status.{busy_of, write_enabled_of, quad_enabled1_of, quad_enabled2_of, unprotected1_of, unprotected2_of}
+use Rattle.spi_nor.specs.Status.{unprotected1_of, unprotected2_of}
 use Rattle.spi_nor.specs.Config.{quad_w25q128jv, from_jedec}
 use Rattle.spi_nor.specs.Datasheet as sheet
 use Rattle.spi_nor.specs.DatasheetAgrees.{Instructions, Addresses, StatusRegisters, Parts, Departures, DatasheetAgrees}
@@ -43,7 +43,6 @@ kept : (b : ℕ) → b < 256 → is_set sheet.qe_bit (unprotected2_of b) ≡ is_
 kept b h = let low : b % 32 / 2 % 2 ≡ b / 2 % 2 = omega arith in rw (status_bits.unprotected2 b h, low)
 
 status_registers : StatusRegisters
-unfolding busy_of write_enabled_of quad_enabled2_of
 status_registers = record {
   busy = λ b h. any-bit sheet.busy_bit b;
   write_enabled = λ b h. any-bit sheet.wel_bit b;
@@ -73,7 +72,6 @@ lock-kept : (b : ℕ) → b < 256 → bit sheet.srl_bit (unprotected2_of b) ≡ 
 lock-kept b h = rw (status_bits.unprotected2 b h) (omega arith)
 
 departures : Departures
-unfolding quad_enabled1_of
 departures = record {
   quad_mask1 = refl;
   quad_enabled1 = λ b h. any-bit sheet.sec_bit b;

@@ -1,5 +1,6 @@
 -- The bounds test, detection and capacity codes.
 -- Assumes nothing.
+use Rattle.std.specs.Prelude.{Some, None}
 use Prim.Native.Nat.{ℕ, zero, suc, ◌*◌, ◌/◌, ◌%◌, ◌^◌, ◌≤◌, ◌<◌}
 use mathlib.Core.Path.{◌≡◌, refl}
 use mathlib.Core.Bool.{Bool, true, false}
@@ -14,7 +15,6 @@ use Rattle.qspi.proofs.Cases.{by_cases}
 use Rattle.spi_nor.specs.Config.{largest_capacity, largest_page, standard_device, jedec_id, same_id, unknown_device, capacity_bytes_of, from_jedec, in_bounds_of}
 use Rattle.spi_nor.specs.DeviceBounds.{InBounds, DeviceBounds}
 use Rattle.spi_nor.specs.declared.config.NorJedecId.{NorJedecId}
-use Rattle.spi_nor.specs.declared.config.CapacityBytes.{CapacityBytes}
 use Rattle.spi_nor.specs.declared.config.NorDeviceInfo.{NorDeviceInfo}
 
 -- ---- the test
@@ -75,15 +75,15 @@ accepts d h =
 
 -- ---- capacity codes
 
-code : (id : NorJedecId) → 16 ≤ id.capacity → id.capacity ≤ 24 → capacity_bytes_of id ≡ CapacityBytes.Known (2 ^ id.capacity)
+code : (id : NorJedecId) → 16 ≤ id.capacity → id.capacity ≤ 24 → capacity_bytes_of id ≡ Some (2 ^ id.capacity)
 unfolding capacity_bytes_of
 code id low high = simp tests
 
-low-code : (id : NorJedecId) → id.capacity < 16 → capacity_bytes_of id ≡ CapacityBytes.Unknown
+low-code : (id : NorJedecId) → id.capacity < 16 → capacity_bytes_of id ≡ None
 unfolding capacity_bytes_of
 low-code id h = simp tests
 
-high-code : (id : NorJedecId) → 24 < id.capacity → capacity_bytes_of id ≡ CapacityBytes.Unknown
+high-code : (id : NorJedecId) → 24 < id.capacity → capacity_bytes_of id ≡ None
 unfolding capacity_bytes_of
 high-code id h = let low : 16 ≤ id.capacity = omega arith in simp tests
 

@@ -6,11 +6,9 @@ use native.Mathlib.Nat.{div-one}
 use lib.Bits.{and_mask}
 use lib.Dec.{eqb, lit<}
 use Rattle.spi_flash.proofs.Bits.{any-bit, set-bit, clear-bit}
-use Rattle.spi_nor.specs.Status.{busy_of, write_enabled_of, quad_enabled1_of, quad_enabled2_of, with_quad1_of, with_quad2_of, without_quad1_of, without_quad2_of, unprotected1_of, unprotected2_of}
 use Rattle.spi_nor.specs.StatusBits.{StatusBits}
 
 pub status_bits : StatusBits
-unfolding busy_of write_enabled_of quad_enabled1_of quad_enabled2_of with_quad1_of with_quad2_of without_quad1_of without_quad2_of unprotected1_of unprotected2_of
 status_bits = record {
   busy = λ b h. any-bit 0 b ∙ ap (λ (n : ℕ). eqb (n % 2) 1) (div-one b);
   write_enabled = λ b h. any-bit 1 b;

@@ -10,7 +10,7 @@ use Rattle.spi_flash.specs.declared.wait.Timings.{Timings}
 use Rattle.spi_flash.proofs.Table.{both, at}
 use Rattle.spi_flash.proofs.Waiting.{wait-in-general}
 use Rattle.spi_nor.specs.Opcode.{wait_row, wait_table, row_of, row_at, timings_of}
-use Rattle.spi_nor.specs.Status.{busy_of, busy_value}
+use Rattle.spi_nor.specs.Status.{busy_value}
 use Rattle.spi_nor.specs.Command.{read_status1_command}
 use Rattle.spi_nor.specs.WaitTable.{RowRule, largest_of, looks_of, WaitTable}
 use Rattle.spi_nor.specs.declared.opcode.Operation.{Operation}
@@ -40,7 +40,6 @@ operation-rule operation = row-rule (row_of operation) (row_below operation)
 
 -- a status byte 0 is ready, 1 busy: the general law holds of the busy test
 law : (operation : Operation) → WaitLaw read_status1_command busy_value (timings_of operation) (prompt_wait read_status1_command busy_value (timings_of operation))
-unfolding busy_of
 law operation =
     let rule = operation-rule operation in
     wait-in-general.prompt read_status1_command busy_value refl refl (timings_of operation) rule.first rule.poll

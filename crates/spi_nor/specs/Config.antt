@@ -1,13 +1,10 @@
 -- Geometries, the id table and their bounds (nor/config.rs; document 01, "Geometry").
-use Rattle.std.specs.Prelude.{ℕ, ◌%◌, ◌^◌, Bool, false, List, [], ◌∷◌, leb, eqb}
+use Rattle.std.specs.Prelude.{ℕ, ◌%◌, ◌^◌, Bool, false, List, [], ◌∷◌, leb, eqb, Option, Some, None}
 use Rattle.qspi.specs.Choice.{pick}
 use Rattle.spi_nor.specs.Opcode.{QUAD-READ, QUAD-PAGE-PROGRAM}
 use Rattle.spi_nor.specs.declared.config.NorJedecId.{NorJedecId}
-use Rattle.spi_nor.specs.declared.config.CapacityBytes.{CapacityBytes}
 use Rattle.spi_nor.specs.declared.config.NorDeviceInfo.{NorDeviceInfo}
 use Rattle.spi_nor.specs.declared.config.NorQuadConfig.{NorQuadConfig}
-use Rattle.spi_nor.specs.declared.config.QuadSetting.{QuadSetting}
-use Rattle.spi_nor.specs.declared.config.DeviceSetting.{DeviceSetting}
 use Rattle.spi_nor.specs.declared.config.SpiNorConfig.{SpiNorConfig}
 
 -- ---- devices
@@ -42,32 +39,25 @@ w25q128jv = standard_device 16777216
 abbrev pub jedec_id : ℕ → ℕ → ℕ → NorJedecId
 jedec_id manufacturer memory_type capacity = record { manufacturer = manufacturer; memory_type = memory_type; capacity = capacity }
 
-pub record KnownNor : Type 0 where
-  pub id : NorJedecId
-  pub info : NorDeviceInfo
-
-abbrev pub known : NorJedecId → NorDeviceInfo → KnownNor
-known id info = record { id = id; info = info }
-
 -- KNOWN_NOR_DEVICES
-abbrev pub known_nor_devices : List KnownNor
+abbrev pub known_nor_devices : List (NorJedecId × NorDeviceInfo)
 known_nor_devices =
-    known (jedec_id 0xEF 0x40 0x17) w25q64jv
-    ∷ known (jedec_id 0xEF 0x40 0x18) w25q128jv
-    ∷ known (jedec_id 0xC8 0x40 0x18) w25q128jv
+    (jedec_id 0xEF 0x40 0x17, w25q64jv)
+    ∷ (jedec_id 0xEF 0x40 0x18, w25q128jv)
+    ∷ (jedec_id 0xC8 0x40 0x18, w25q128jv)
     ∷ []
 
 -- "An unknown NOR with capacity code 16 to 24 has 2 to that power bytes"
-unfoldable pub capacity_bytes_of : NorJedecId → CapacityBytes
+unfoldable pub capacity_bytes_of : NorJedecId → Option ℕ
 capacity_bytes_of id =
     pick (leb 16 id.capacity)
-    (pick (leb id.capacity 24) (CapacityBytes.Known (2 ^ id.capacity)) CapacityBytes.Unknown)
-    CapacityBytes.Unknown
+    (pick (leb id.capacity 24) (Some (2 ^ id.capacity)) None)
+    None
 
 -- ", any other is a W25Q128JV"
-abbrev pub unknown_device : CapacityBytes → NorDeviceInfo
-unknown_device (CapacityBytes.Known capacity) = standard_device capacity
-unknown_device CapacityBytes.Unknown = w25q128jv
+abbrev pub unknown_device : Option ℕ → NorDeviceInfo
+unknown_device (Some capacity) = standard_device capacity
+unknown_device None = w25q128jv
 
 abbrev pub same_id : NorJedecId → NorJedecId → Bool
 same_id a b =
@@ -76,9 +66,9 @@ same_id a b =
     false
 
 -- the device of the first row with this id, or else the other
-abbrev pub look_up : NorJedecId → List KnownNor → NorDeviceInfo → NorDeviceInfo
+abbrev pub look_up : NorJedecId → List (NorJedecId × NorDeviceInfo) → NorDeviceInfo → NorDeviceInfo
 look_up id [] other = other
-look_up id (row ∷ rows) other = pick (same_id id row.id) row.info (look_up id rows other)
+look_up id (row ∷ rows) other = pick (same_id id row.0) row.1 (look_up id rows other)
 
 -- NorDeviceInfo::from_jedec; document 01: "The ids in `KNOWN_NOR_DEVICES` choose"
 unfoldable pub from_jedec : NorJedecId → NorDeviceInfo
@@ -115,8 +105,8 @@ quad_w25q128jv = record { tclqv_ns = 8; read_opcode = QUAD-READ; page_program_op
 
 -- SpiNorConfig::single, and SpiNorConfig::default
 abbrev pub single_config : SpiNorConfig
-single_config = record { quad = QuadSetting.Single; device = DeviceSetting.Detect }
+single_config = record { quad = None; device = None }
 
 -- SpiNorConfig::quad
 abbrev pub quad_config : NorQuadConfig → SpiNorConfig
-quad_config quad = record { quad = QuadSetting.Quad quad; device = DeviceSetting.Detect }
+quad_config quad = record { quad = Some quad; device = None }

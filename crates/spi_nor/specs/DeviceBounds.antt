@@ -1,8 +1,7 @@
 -- What the bounds test and detection come to.
-use Rattle.std.specs.Prelude.{ℕ, ◌*◌, ◌^◌, ◌≤◌, ◌<◌, ◌≡◌, true}
+use Rattle.std.specs.Prelude.{ℕ, ◌*◌, ◌^◌, ◌≤◌, ◌<◌, ◌≡◌, true, Some, None}
 use Rattle.spi_nor.specs.Config.{capacity_bytes_of, from_jedec, in_bounds_of}
 use Rattle.spi_nor.specs.declared.config.NorJedecId.{NorJedecId}
-use Rattle.spi_nor.specs.declared.config.CapacityBytes.{CapacityBytes}
 use Rattle.spi_nor.specs.declared.config.NorDeviceInfo.{NorDeviceInfo}
 
 -- document 01, "Geometry": the bounds for a caller's own NOR
@@ -24,6 +23,6 @@ pub record DeviceBounds : Type 0 where
   pub detected : (id : NorJedecId) → InBounds (from_jedec id)
   pub detected_page : (id : NorJedecId) → (from_jedec id).page_size ≤ 512
   -- a capacity code is read for what it is from 16 to 24, and nowhere else
-  pub code : (id : NorJedecId) → 16 ≤ id.capacity → id.capacity ≤ 24 → capacity_bytes_of id ≡ CapacityBytes.Known (2 ^ id.capacity)
-  pub low_code : (id : NorJedecId) → id.capacity < 16 → capacity_bytes_of id ≡ CapacityBytes.Unknown
-  pub high_code : (id : NorJedecId) → 24 < id.capacity → capacity_bytes_of id ≡ CapacityBytes.Unknown
+  pub code : (id : NorJedecId) → 16 ≤ id.capacity → id.capacity ≤ 24 → capacity_bytes_of id ≡ Some (2 ^ id.capacity)
+  pub low_code : (id : NorJedecId) → id.capacity < 16 → capacity_bytes_of id ≡ None
+  pub high_code : (id : NorJedecId) → 24 < id.capacity → capacity_bytes_of id ≡ None

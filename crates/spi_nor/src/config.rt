@@ -19,7 +19,7 @@ pub const MAX_CAPACITY: usize = 16_777_216;
 pub const MAX_PAGE_SIZE: usize = 65_536;
 
 // What READ ID (9F) answers.
-#[derive(Clone, Copy)]
+#[derive(Clone, Copy, PartialEq, Eq)]
 pub struct NorJedecId {
     // EF for Winbond.
     pub manufacturer: u8,
@@ -29,23 +29,16 @@ pub struct NorJedecId {
     pub capacity: u8,
 }
 
-// The Rust's Option<usize>.
-#[derive(Clone, Copy)]
-pub enum CapacityBytes {
-    Known(usize),
-    Unknown,
-}
-
 impl NorJedecId {
-    #[tactic(auto, using(crate::proofs::Shifts::shifted), unfolding(crate::specs::Config::capacity_bytes_of))]
-    pub fn capacity_bytes(self) -> CapacityBytes
+    #[tactic(auto, unfolding(crate::specs::Config::capacity_bytes_of))]
+    pub fn capacity_bytes(self) -> Option<usize>
         ensures { result ≡ capacity_bytes_of self }
     {
         let code = self.capacity;
         if code >= 16 && code <= 24 {
-            CapacityBytes::Known(1usize << code)
+            Some(1usize << code)
         } else {
-            CapacityBytes::Unknown
+            None
         }
     }
 }
@@ -58,35 +51,31 @@ pub struct NorDeviceInfo {
     pub page_size: usize,
 }
 
-// The Rust's rows as numbers: manufacturer, memory type, capacity code, then the device's capacity, sector, block and page.
-const KNOWN_NOR_DEVICES: [[usize; 7]; 3] = [
-    [
-        0xEF,
-        0x40,
-        0x17,
-        NorDeviceInfo::W25Q64JV.capacity,
-        NorDeviceInfo::W25Q64JV.sector_size,
-        NorDeviceInfo::W25Q64JV.block_size,
-        NorDeviceInfo::W25Q64JV.page_size,
-    ],
-    [
-        0xEF,
-        0x40,
-        0x18,
-        NorDeviceInfo::W25Q128JV.capacity,
-        NorDeviceInfo::W25Q128JV.sector_size,
-        NorDeviceInfo::W25Q128JV.block_size,
-        NorDeviceInfo::W25Q128JV.page_size,
-    ],
-    [
-        0xC8,
-        0x40,
-        0x18,
-        NorDeviceInfo::W25Q128JV.capacity,
-        NorDeviceInfo::W25Q128JV.sector_size,
-        NorDeviceInfo::W25Q128JV.block_size,
-        NorDeviceInfo::W25Q128JV.page_size,
-    ],
+const KNOWN_NOR_DEVICES: [(NorJedecId, NorDeviceInfo); 3] = [
+    (
+        NorJedecId {
+            manufacturer: 0xEF,
+            memory_type: 0x40,
+            capacity: 0x17,
+        },
+        NorDeviceInfo::W25Q64JV,
+    ),
+    (
+        NorJedecId {
+            manufacturer: 0xEF,
+            memory_type: 0x40,
+            capacity: 0x18,
+        },
+        NorDeviceInfo::W25Q128JV,
+    ),
+    (
+        NorJedecId {
+            manufacturer: 0xC8,
+            memory_type: 0x40,
+            capacity: 0x18,
+        },
+        NorDeviceInfo::W25Q128JV,
+    ),
 ];
 
 impl NorDeviceInfo {
@@ -107,62 +96,38 @@ impl NorDeviceInfo {
     };
 
     // The geometry that an id stands for, or else W25Q128JV.
+    #[tactic(auto, unfolding(crate::specs::Config::from_jedec))]
     pub fn from_jedec(id: NorJedecId) -> Self
         ensures { result ≡ from_jedec id }
     {
-        let mut idx = 0;
-        while idx < KNOWN_NOR_DEVICES.len() {
-            let row = KNOWN_NOR_DEVICES[idx];
-            if id.manufacturer as usize == row[0]
-                && id.memory_type as usize == row[1]
-                && id.capacity as usize == row[2]
-            {
-                return Self {
-                    capacity: row[3],
-                    sector_size: row[4],
-                    block_size: row[5],
-                    page_size: row[6],
-                };
+        for (known, info) in KNOWN_NOR_DEVICES {
+            if known == id {
+                return info;
             }
-            idx += 1;
         }
         match id.capacity_bytes() {
-            CapacityBytes::Known(capacity) => Self {
+            Some(capacity) => Self {
                 capacity,
                 sector_size: NOR_SECTOR_SIZE,
                 block_size: NOR_BLOCK_SIZE_64K,
                 page_size: NOR_PAGE_SIZE,
             },
-            CapacityBytes::Unknown => Self::W25Q128JV,
+            None => Self::W25Q128JV,
         }
     }
 
     // Added: whether a caller's own geometry is one that the driver takes.
+    #[tactic(auto, unfolding(crate::specs::Config::in_bounds_of))]
     pub fn in_bounds(self) -> bool
         ensures { result ≡ in_bounds_of self }
     {
-        let sector = self.sector_size;
-        let block = self.block_size;
-        let page = self.page_size;
-        if self.capacity > MAX_CAPACITY {
-            return false;
-        }
-        if page < 1 {
-            return false;
-        }
-        if page > MAX_PAGE_SIZE {
-            return false;
-        }
-        if sector < 1 {
-            return false;
-        }
-        if block < 1 {
-            return false;
-        }
-        if block > MAX_CAPACITY {
-            return false;
-        }
-        block % sector == 0
+        self.capacity <= MAX_CAPACITY
+            && self.page_size >= 1
+            && self.page_size <= MAX_PAGE_SIZE
+            && self.sector_size >= 1
+            && self.block_size >= 1
+            && self.block_size <= MAX_CAPACITY
+            && self.block_size % self.sector_size == 0
     }
 }
 
@@ -186,48 +151,31 @@ impl NorQuadConfig {
         page_program_opcode: opcode::QUAD_PAGE_PROGRAM,
         dummy_margin: 0,
     };
+}
 
-    pub fn default() -> Self
-        ensures { result ≡ quad_w25q128jv }
-    {
+impl Default for NorQuadConfig {
+    ghost is_default = { λ q. q ≡ quad_w25q128jv };
+
+    fn default() -> Self {
         Self::W25Q128JV
     }
 }
 
-// The Rust's Option<NorQuadConfig>.
-#[derive(Clone, Copy)]
-pub enum QuadSetting {
-    Single,
-    Quad(NorQuadConfig),
-}
-
-// The Rust's Option<NorDeviceInfo>.
-#[derive(Clone, Copy)]
-pub enum DeviceSetting {
-    // By READ ID.
-    Detect,
-    Given(NorDeviceInfo),
-}
-
-#[derive(Clone, Copy)]
+#[derive(Clone, Copy, Default)]
 pub struct SpiNorConfig {
-    pub quad: QuadSetting,
-    pub device: DeviceSetting,
+    // None for single-line transfers.
+    pub quad: Option<NorQuadConfig>,
+    // None to detect it by READ ID.
+    pub device: Option<NorDeviceInfo>,
 }
 
 impl SpiNorConfig {
-    pub fn default() -> Self
-        ensures { result ≡ single_config }
-    {
-        SpiNorConfig::single()
-    }
-
     pub fn single() -> Self
         ensures { result ≡ single_config }
     {
         Self {
-            quad: QuadSetting::Single,
-            device: DeviceSetting::Detect,
+            quad: None,
+            device: None,
         }
     }
 
@@ -235,8 +183,8 @@ impl SpiNorConfig {
         ensures { result ≡ quad_config quad }
     {
         Self {
-            quad: QuadSetting::Quad(quad),
-            device: DeviceSetting::Detect,
+            quad: Some(quad),
+            device: None,
         }
     }
 }

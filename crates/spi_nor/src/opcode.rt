@@ -1,6 +1,6 @@
 // Opcodes and wait limits (nor/opcode.rs).
-ghost use Rattle.std.specs.Prelude.{◌≡◌, ◌<◌};
-ghost use Rattle.spi_nor.specs.Opcode.{row_of, timings_of};
+ghost use Rattle.std.specs.Prelude.{◌≡◌};
+ghost use Rattle.spi_nor.specs.Opcode.{timings_of};
 
 use spi_flash::wait::Timings;
 
@@ -53,44 +53,20 @@ pub enum Operation {
     StatusWrite,
 }
 
-// A row for each operation. The first look comes at once.
-const WAITS: [Timings; 4] = [
-    Timings {
-        initial_us: 0,
-        poll_us: POLL_INTERVAL_US,
-        timeout_us: PAGE_PROGRAM_TIMEOUT_US,
-    },
-    Timings {
-        initial_us: 0,
-        poll_us: POLL_INTERVAL_US,
-        timeout_us: SECTOR_ERASE_TIMEOUT_US,
-    },
-    Timings {
-        initial_us: 0,
-        poll_us: POLL_INTERVAL_US,
-        timeout_us: BLOCK_ERASE_TIMEOUT_US,
-    },
-    Timings {
-        initial_us: 0,
-        poll_us: POLL_INTERVAL_US,
-        timeout_us: STATUS_WRITE_TIMEOUT_US,
-    },
-];
-
-fn row(operation: Operation) -> usize
-    ensures { (result ≡ row_of operation) × (result < 4) }
-{
-    match operation {
-        Operation::PageProgram => 0,
-        Operation::SectorErase => 1,
-        Operation::BlockErase => 2,
-        Operation::StatusWrite => 3,
-    }
-}
-
+// The first look comes at once.
+#[tactic(auto, unfolding(crate::specs::Opcode::timings_of))]
 pub fn timings(operation: Operation) -> Timings
     ensures { result ≡ timings_of operation }
 {
-    let i = row(operation);
-    WAITS[i]
+    let timeout_us = match operation {
+        Operation::PageProgram => PAGE_PROGRAM_TIMEOUT_US,
+        Operation::SectorErase => SECTOR_ERASE_TIMEOUT_US,
+        Operation::BlockErase => BLOCK_ERASE_TIMEOUT_US,
+        Operation::StatusWrite => STATUS_WRITE_TIMEOUT_US,
+    };
+    Timings {
+        initial_us: 0,
+        poll_us: POLL_INTERVAL_US,
+        timeout_us,
+    }
 }

@@ -1,5 +1,6 @@
 -- What is well formed is accepted, and a walk gives the records that the tape was made of.
 use Prim.Native.Nat.{ℕ, ◌+◌, ◌-◌, ◌^◌, ◌≤◌, ◌<◌}
+use Rattle.std.proofs.Common.{Option, Some, None}
 use mathlib.Core.Path.{◌≡◌, refl, ap, sym, ◌∙◌}
 use mathlib.Core.List.{List, [], ◌∷◌, ◌++◌}
 use native.Mathlib.Omega.{arith}
@@ -21,10 +22,10 @@ use Rattle.tape.proofs.Records.{steps}
 use Rattle.tape.proofs.Accepted.{Accepted, trailer-part}
 
 -- an answer that brings a record, whose bytes start at a place
-answer : TapeRecord → ℕ → Record
-answer TapeRecord.done from = Record.Done
-answer (TapeRecord.bytes body) from = Record.Data from (length body)
-answer (TapeRecord.bus_error code) from = Record.BusError code
+answer : TapeRecord → ℕ → Option Record
+answer TapeRecord.done from = Some Record.Done
+answer (TapeRecord.bytes body) from = Some (Record.Data from (length body))
+answer (TapeRecord.bus_error code) from = Some (Record.BusError code)
 
 length-read : (r : TapeRecord) (behind : List ℕ) → length (body_of r) < 256 ^ 3 → length_in (encoded r ++ behind) ≡ length (body_of r)
 length-read r behind small = numbers.back 3 (length (body_of r)) (omega arith) small
@@ -76,7 +77,7 @@ module _ (tape : List ℕ) (most : length tape ≤ longest_tape) where
   gives at (TapeRecord.bytes body) behind here others = rw (takes at (TapeRecord.bytes body) behind here, body-read at body behind here)
   gives at (TapeRecord.bus_error code) behind here others = rw (takes at (TapeRecord.bus_error code) behind here)
 
-  stops : (at : ℕ) → ahead_of tape at ≡ [] → taken_at tape at ≡ taken Record.Spent at
+  stops : (at : ℕ) → ahead_of tape at ≡ [] → taken_at tape at ≡ taken None at
   unfolding taken_in
   stops at here = ap (λ (s : List ℕ). taken_in s at) here
 

@@ -1,5 +1,6 @@
 -- What a position of a tape can have: nothing, or one of the three kinds of record, whole before the trailer.
 use Prim.Native.Nat.{ℕ, ◌+◌, ◌-◌, ◌≤◌}
+use Rattle.std.proofs.Common.{Some, None}
 use mathlib.Core.Path.{◌≡◌}
 use mathlib.Core.List.{List}
 use native.Mathlib.Omega.{arith}
@@ -13,13 +14,13 @@ use Rattle.tape.specs.declared.record.Record.{Record}
 use Rattle.tape.specs.declared.record.Taken.{Taken}
 
 pub data Found (s : List ℕ) (at : ℕ) : Taken → Type 0 where
-  nothing : Found s at (taken Record.Spent at)
+  nothing : Found s at (taken None at)
   is_done : get_or s 0 0 ≡ done_kind → length_in s ≡ done_length → header_length + length_in s ≤ length s
-      → Found s at (taken Record.Done (at + header_length + length_in s))
+      → Found s at (taken (Some Record.Done) (at + header_length + length_in s))
   is_data : get_or s 0 0 ≡ data_kind → header_length + length_in s ≤ length s
-      → Found s at (taken (Record.Data (at + header_length) (length_in s)) (at + header_length + length_in s))
+      → Found s at (taken (Some (Record.Data (at + header_length) (length_in s))) (at + header_length + length_in s))
   is_error : get_or s 0 0 ≡ error_kind → length_in s ≡ error_length → header_length + length_in s ≤ length s
-      → Found s at (taken (Record.BusError (get_or s header_length 0)) (at + header_length + length_in s))
+      → Found s at (taken (Some (Record.BusError (get_or s header_length 0))) (at + header_length + length_in s))
 
 shaped : (s : List ℕ) (at : ℕ) → header_length + length_in s ≤ length s → Found s at (shaped_of s at (get_or s 0 0) (length_in s))
 unfolding shaped_of

@@ -1,5 +1,6 @@
 -- A walk over records: it stays where none stands, goes on at least a header's length where one does, and so ends within the tape's length.
 use Prim.Native.Nat.{ℕ, zero, suc, ◌+◌, ◌≤◌, ◌<◌}
+use Rattle.std.proofs.Common.{Some, None}
 use mathlib.Core.Path.{◌≡◌, refl, ap, sym, ◌∙◌}
 use mathlib.Core.List.{List}
 use native.Mathlib.Omega.{arith}
@@ -13,7 +14,7 @@ use Rattle.tape.proofs.Found.{Found, nothing, is_done, is_data, is_error, found}
 
 module _ (tape : List ℕ) where
   -- a step stays, or goes on and not past the trailer
-  pub by-step : {G : Type 0} (at : ℕ) → (taken_at tape at ≡ taken Record.Spent at → G) → (at < (taken_at tape at).next → (taken_at tape at).next ≤ trailer_at tape → G) → G
+  pub by-step : {G : Type 0} (at : ℕ) → (taken_at tape at ≡ taken None at → G) → (at < (taken_at tape at).next → (taken_at tape at).next ≤ trailer_at tape → G) → G
   by-step {G} at stays goes = go (taken_at tape at) refl (found (ahead_of tape at) at)
     where
       go : (t : Taken) → taken_at tape at ≡ t → Found (ahead_of tape at) at t → G
@@ -22,7 +23,7 @@ module _ (tape : List ℕ) where
       go t e (is_data k h) = goes (omega (arith, ap (λ (x : Taken). x.next) e)) (omega (arith, room tape at, ap (λ (x : Taken). x.next) e))
       go t e (is_error k z h) = goes (omega (arith, ap (λ (x : Taken). x.next) e)) (omega (arith, room tape at, ap (λ (x : Taken). x.next) e))
 
-  pub stay : (n at : ℕ) → taken_at tape at ≡ taken Record.Spent at → walked n tape at ≡ at
+  pub stay : (n at : ℕ) → taken_at tape at ≡ taken None at → walked n tape at ≡ at
   stay zero at e = refl
   stay (suc n) at e = rw e (stay n at e)
 
@@ -54,11 +55,16 @@ module _ (tape : List ℕ) where
   onwards at = forward (length tape) at
 
   -- an answer that is no record leaves the position as it is
-  pub spent-stays : (at : ℕ) → (taken_at tape at).given ≡ Record.Spent → (taken_at tape at).next ≡ at
+  pub spent-stays : (at : ℕ) → (taken_at tape at).given ≡ None → (taken_at tape at).next ≡ at
   spent-stays at h = go (taken_at tape at) h (found (ahead_of tape at) at)
     where
-      go : (t : Taken) → t.given ≡ Record.Spent → Found (ahead_of tape at) at t → t.next ≡ at
+      go : (t : Taken) → t.given ≡ None → Found (ahead_of tape at) at t → t.next ≡ at
       go t e nothing = refl
       go t e (is_done k z fits) = cc
       go t e (is_data k fits) = cc
       go t e (is_error k z fits) = cc
+
+  -- behind a record the position is further on, and not past the trailer
+  pub goes-on : (at : ℕ) (r : Record) → (taken_at tape at).given ≡ Some r → (at < (taken_at tape at).next) × ((taken_at tape at).next ≤ trailer_at tape)
+  goes-on at r h =
+      by-step at (λ e. let none : None ≡ Some r = sym (ap (λ (x : Taken). x.given) e) ∙ h in cc) (λ on within. (on, within))

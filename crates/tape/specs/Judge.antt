@@ -1,5 +1,5 @@
 -- Which tapes are accepted, and where their first record stands.
-use Rattle.std.specs.Prelude.{ℕ, zero, suc, Bool, false, List, length, ltb, eqb}
+use Rattle.std.specs.Prelude.{ℕ, zero, suc, Bool, false, List, length, ltb, eqb, Option, Some, None}
 use Rattle.qspi.specs.Choice.{pick}
 use Rattle.qspi.specs.Bytes.{part_of, number_of}
 use Rattle.tape.specs.Tape.{trailer_length, longest_tape}
@@ -27,3 +27,7 @@ accepted_of tape =
 -- the first record's position; 0 for a tape that is refused
 unfoldable pub first_of : List ℕ → ℕ
 first_of tape = pick (accepted_of tape) (pointer_of tape) 0
+
+-- where the records begin; nowhere on a tape that is refused
+abbrev pub start_of : List ℕ → Option ℕ
+start_of tape = pick (accepted_of tape) (Some (first_of tape)) None

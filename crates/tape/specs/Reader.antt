@@ -1,5 +1,5 @@
 -- A reader: the tape and the position of its next record.
-use Rattle.std.specs.Prelude.{ℕ, List}
+use Rattle.std.specs.Prelude.{ℕ, List, Option}
 use Rattle.std.specs.Borrow.{Bor}
 use Rattle.tape.specs.Record.{taken_at}
 use Rattle.tape.specs.declared.record.Record.{Record}
@@ -10,10 +10,10 @@ reader_at tape at = record { tape = tape; at = at }
 
 -- what a reader gives, and the reader after that
 pub record Read : Type 0 where
-  pub given : Record
+  pub given : Option Record
   pub reader : Reader
 
-abbrev pub read_to : Record → Reader → Read
+abbrev pub read_to : Option Record → Reader → Read
 read_to given reader = record { given = given; reader = reader }
 
 -- the record at the reader's position, and the reader of the same tape behind it

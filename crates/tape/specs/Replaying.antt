@@ -1,5 +1,5 @@
--- A call of a driver over a tape, step by step. Each driver has a struct of its own for where its replay stands.
-use Rattle.std.specs.Prelude.{ℕ, List, []}
+-- A call of a driver over a tape, step by step. The code has a struct for where a replay stands (replay).
+use Rattle.std.specs.Prelude.{ℕ, List, [], Option}
 use Rattle.qspi.specs.Bus.{on_bus}
 use Rattle.qspi.specs.Choice.{pick}
 use Rattle.qspi.specs.declared.bus.Reply.{Reply}
@@ -43,7 +43,7 @@ module _ {R F S P A G C : Type 0} (taped : Taped R F S P A G C) where
   plain_over flash at scratch buffer lent = played_at at (taped.step flash Reply.Done [] scratch buffer lent)
 
   -- a bus action is answered by the record; with none left it is 16, "call unfinished"
-  abbrev pub record_then : Record → F → ℕ → List ℕ → List ℕ → List ℕ → List ℕ → Played R
+  abbrev pub record_then : Option Record → F → ℕ → List ℕ → List ℕ → List ℕ → List ℕ → Played R
   record_then x flash at bytes scratch buffer lent =
       pick (spent_of x) (played_at at (stepped_to (taped.shape.refused flash FlashError.TapeSpent) scratch buffer))
       (played_at at (taped.step flash (reply_of x) bytes scratch buffer lent))

@@ -1,12 +1,11 @@
 -- What is proved of the definitions that the contracts cite.
-use Rattle.std.specs.Prelude.{ℕ, ◌+◌, ◌≡◌, true, List, [], ◌∷◌, length}
+use Rattle.std.specs.Prelude.{ℕ, ◌+◌, ◌≡◌, true, List, [], ◌∷◌, length, None}
 use Rattle.qspi.specs.Bytes.{AllBytes}
 use Rattle.tape.specs.Tape.{trailer_length, TapeRecord, WellFormed}
 use Rattle.tape.specs.Record.{taken_at}
 use Rattle.tape.specs.Judge.{accepted_of, first_of}
 use Rattle.tape.specs.Records.{listed, records_from}
 use Rattle.tape.specs.Reader.{next_of}
-use Rattle.tape.specs.declared.record.Record.{Record}
 use Rattle.tape.specs.declared.reader.Reader.{Reader}
 
 -- a tape of bytes is accepted just where it is well formed
@@ -39,5 +38,5 @@ pub record ReaderWalks : Type 0 where
   -- a reader of a well-formed tape gives exactly the records that the tape was made of
   pub all : (tape : List ℕ) (made : WellFormed tape) → records_from tape (first_of tape) ≡ made.records
   -- and where it gives no more it stands at the trailer
-  pub spent : (tape : List ℕ) → accepted_of tape ≡ true → (at : ℕ) → Reached tape at → (taken_at tape at).given ≡ Record.Spent
+  pub spent : (tape : List ℕ) → accepted_of tape ≡ true → (at : ℕ) → Reached tape at → (taken_at tape at).given ≡ None
       → at + trailer_length ≡ length tape

@@ -1,7 +1,8 @@
 // Whether a tape is well formed, and where its first record stands. The whole tape is judged, records that no replay reaches too.
 ghost use Rattle.std.specs.Prelude.{◌≡◌};
-ghost use Rattle.tape.specs.Judge.{end_from, pointer_of, accepted_of, first_of};
+ghost use Rattle.tape.specs.Judge.{end_from, pointer_of, accepted_of, start_of};
 
+use crate::reader::Reader;
 use crate::record;
 use crate::record::TRAILER_LEN;
 use qspi::bytes;
@@ -13,13 +14,9 @@ pub const TAPE_MOST: usize = 16777215;
 pub fn end_from(tape: &[u8], from: usize) -> usize
     ensures { result ≡ end_from tape.now from }
 {
-    let mut at = from;
-    let mut next = record::behind(tape, at);
-    while at < next {
-        at = next;
-        next = record::behind(tape, at);
-    }
-    at
+    let mut reader = Reader::new(tape, from);
+    while let Some(_) = reader.next() {}
+    reader.at
 }
 
 // The position in the trailer, highest byte first.
@@ -30,6 +27,7 @@ pub fn pointer(tape: &[u8]) -> usize
     bytes::number(bytes::part(tape, end, TRAILER_LEN)) as usize
 }
 
+#[tactic(auto, unfolding(crate::specs::Judge::accepted_of))]
 pub fn well_formed(tape: &[u8]) -> bool
     ensures { result ≡ accepted_of tape.now }
 {
@@ -45,9 +43,10 @@ pub fn well_formed(tape: &[u8]) -> bool
     end == n - TRAILER_LEN
 }
 
-// The first record's position, or 0 for a tape that is not well formed.
-pub fn first(tape: &[u8]) -> usize
-    ensures { result ≡ first_of tape.now }
+// The first record's position; none on a tape that is not well formed.
+#[tactic(auto, unfolding(crate::specs::Judge::first_of))]
+pub fn first(tape: &[u8]) -> Option<usize>
+    ensures { result ≡ start_of tape.now }
 {
-    if well_formed(tape) { pointer(tape) } else { 0 }
+    well_formed(tape).then_some(pointer(tape))
 }

@@ -1,11 +1,16 @@
 // A reader of a tape: the tape and the position of its next record.
-// The functions over it are thin and leave the work to `record`; whoever has a tape and a position calls `next_at`.
-ghost use Rattle.std.specs.Prelude.{◌≡◌};
-ghost use Rattle.tape.specs.Record.{taken_at};
+// It reads every tape at every position; where no record fits, it gives none and stays.
+ghost use Rattle.std.specs.Prelude.{◌≡◌, ◌+◌, ◌-◌, ◌≤◌, ◌<◌, ◌^◌, length, None};
+ghost use Rattle.std.specs.Iterator.{at_most};
+ghost use Rattle.tape.specs.Tape.{header_length};
+ghost use Rattle.tape.specs.Record.{trailer_at, ahead_of, length_in, taken, shaped_of, taken_at};
 ghost use Rattle.tape.specs.Reader.{reader_at, read_to, next_of};
 
 use crate::record;
-use crate::record::{Record, Taken};
+use crate::record::{
+    BUS_ERROR, BUS_ERROR_LEN, DATA, DONE, DONE_LEN, HEADER_LEN, KIND_LEN, Record, Taken,
+};
+use qspi::bytes;
 
 #[derive(Clone, Copy)]
 pub struct Reader<'a> {
@@ -13,29 +18,92 @@ pub struct Reader<'a> {
     pub at: usize,
 }
 
-pub fn new<'a>(tape: &'a [u8], at: usize) -> Reader<'a>
-    ensures { result ≡ reader_at tape.entry at }
+// The length in a header, highest byte first.
+fn length_in(s: &[u8]) -> usize
+    requires { header_length ≤ length s.now }
+    ensures { result ≡ length_in s.now }
 {
-    Reader { tape, at }
+    bytes::number(&s[KIND_LEN..HEADER_LEN]) as usize
 }
 
-// The next record. The reader goes on to the one behind it.
-pub fn next<'s, 'a>(reader: &'s mut Reader<'a>) -> Record
-    ensures { read_to result reader.new ≡ next_of reader.old }
+// No record stands at a position, and the reader stays there.
+fn nothing(at: usize) -> Taken
+    ensures { result ≡ taken None at }
 {
-    let t = record::taken_at(reader.tape, reader.at);
-    reader.at = t.next;
-    t.given
-}
-
-// What a reader at a position gives, and the position that it is left at.
-pub fn next_at(tape: &[u8], at: usize) -> Taken
-    ensures { result ≡ taken_at tape.now at }
-{
-    let mut reader = new(tape, at);
-    let given = next(&mut reader);
     Taken {
-        given,
-        next: reader.at,
+        given: None,
+        next: at,
+    }
+}
+
+// The record of a kind and a length that begins s, which stands at a position.
+#[tactic(auto, unfolding(crate::specs::Record::shaped_of))]
+fn shaped(s: &[u8], at: usize, kind: u8, len: usize) -> Taken
+    requires { (header_length + len ≤ length s.now) × (at + length s.now < 2 ^ 64) }
+    ensures { result ≡ shaped_of s.now at kind len }
+{
+    let from = at + HEADER_LEN;
+    let record = match (kind, len) {
+        (DONE, DONE_LEN) => Record::Done,
+        (DATA, _) => Record::Data { from, len },
+        (BUS_ERROR, BUS_ERROR_LEN) => Record::BusError(s[HEADER_LEN]),
+        _ => return nothing(at),
+    };
+    Taken {
+        given: Some(record),
+        next: from + len,
+    }
+}
+
+impl<'a> Reader<'a> {
+    pub fn new(tape: &'a [u8], at: usize) -> Reader<'a>
+        ensures { result ≡ reader_at tape.entry at }
+    {
+        Reader { tape, at }
+    }
+
+    // The bytes up to the trailer.
+    #[tactic(auto, using(crate::proofs::Parts::part_slice, crate::proofs::Parts::none_ahead), unfolding(crate::specs::Record::ahead_of))]
+    pub fn ahead(self) -> &'a [u8]
+        ensures { result.now ≡ ahead_of self.entry.tape.now self.entry.at }
+    {
+        let end = record::trailer_at(self.tape);
+        if self.at <= end {
+            &self.tape[self.at..end]
+        } else {
+            &self.tape[..0]
+        }
+    }
+
+    // The record at the reader's position, and the position behind it.
+    #[tactic(auto, using(crate::proofs::Parts::room), unfolding(crate::specs::Record::taken_in))]
+    pub fn taken(self) -> Taken
+        ensures { result ≡ taken_at self.entry.tape.now self.entry.at }
+    {
+        let s = self.ahead();
+        let n = s.len();
+        if n < HEADER_LEN {
+            return nothing(self.at);
+        }
+        let len = length_in(s);
+        if n - HEADER_LEN < len {
+            return nothing(self.at);
+        }
+        shaped(s, self.at, s[0], len)
+    }
+}
+
+impl Iterator for Reader<'_> {
+    type Item = Record;
+
+    // The record at the reader's position, and the reader of the same tape behind it.
+    ghost next_gives = { λ old given new. read_to given new ≡ next_of old };
+
+    ghost remaining = { λ s. at_most (trailer_at s.tape.now - s.at) };
+
+    fn next(&mut self) -> Option<Record> {
+        let t = self.taken();
+        self.at = t.next;
+        t.given
     }
 }

@@ -2,6 +2,7 @@
 use Prim.Native.Nat.{ℕ}
 use mathlib.Core.Bool.{Bool, true, false, true≢false}
 use mathlib.Core.Path.{◌≡◌, refl, ap, sym, ◌∙◌, subst}
+use Rattle.std.proofs.Common.{Option, Some, None}
 use mathlib.Core.List.{List}
 use lib.ListN.{length}
 use native.Mathlib.Omega.{arith}
@@ -74,11 +75,9 @@ refuses-shown (ends a) s g e is = cc
 refuses-shown (fails x) s g e is = cc
 refuses-shown (refuses x) s g e is = cc
 
-is-spent : (x : Record) → spent_of x ≡ true → x ≡ Record.Spent
-is-spent Record.Done none = absurd (true≢false (sym none))
-is-spent (Record.Data from len) none = absurd (true≢false (sym none))
-is-spent (Record.BusError code) none = absurd (true≢false (sym none))
-is-spent Record.Spent none = refl
+is-spent : (x : Option Record) → spent_of x ≡ true → x ≡ None
+is-spent (Some r) none = absurd (true≢false (sym none))
+is-spent None none = refl
 
 module _ {R F C A : Type 0} (player : Player R F C A) (follows : Follows player) where
   -- what a step that takes a reply gives is what the driver gives

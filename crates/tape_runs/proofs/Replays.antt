@@ -2,6 +2,7 @@
 use Prim.Native.Nat.{ℕ}
 use mathlib.Core.Bool.{Bool, true, false, true≢false}
 use mathlib.Core.Path.{◌≡◌, refl, ap, ap₂}
+use Rattle.std.proofs.Common.{Option, Some, None}
 use mathlib.Core.List.{List, [], ◌∷◌}
 use Rattle.qspi.specs.Bus.{on_bus}
 use Rattle.qspi.specs.Shown.{shown_of}
@@ -35,12 +36,12 @@ shown-uses (Action.QuadWrite c p) s l = refl
 shown-uses (Action.Delay us) s l = refl
 
 -- a record that is left is the reply
-record-answers : (C : Type 0) (tape : List ℕ) (l : Lent) (x : Record) → spent_of x ≡ false → (behind : List TapeRecord) (rest : List TapeRecord → Type 0) → rest behind →
+record-answers : (C : Type 0) (tape : List ℕ) (l : Lent) (x : Option Record) → spent_of x ≡ false → (behind : List TapeRecord) (rest : List TapeRecord → Type 0) → rest behind →
     AnsweredTo {C = C} true (listed tape x behind) (reply (reply_of x) (data_of tape x) l) rest
-record-answers C tape l Record.Done some behind rest h = ((refl, refl), h)
-record-answers C tape l (Record.Data from len) some behind rest h = ((refl, refl), h)
-record-answers C tape l (Record.BusError code) some behind rest h = ((refl, refl), h)
-record-answers C tape l Record.Spent some behind rest h = absurd (true≢false some)
+record-answers C tape l (Some Record.Done) some behind rest h = ((refl, refl), h)
+record-answers C tape l (Some (Record.Data from len)) some behind rest h = ((refl, refl), h)
+record-answers C tape l (Some (Record.BusError code)) some behind rest h = ((refl, refl), h)
+record-answers C tape l None some behind rest h = absurd (true≢false some)
 
 module _ {R F C A : Type 0} (player : Player R F C A) (tape : List ℕ) where
   -- nothing is played

@@ -1,4 +1,4 @@
--- A driver over a tape, as the statements on replays see it: the two drivers have functions of their own, and the same statements.
+-- A driver over a tape, as the statements on replays see it.
 use Rattle.std.specs.Prelude.{ℕ, List, length}
 use Rattle.frames.specs.declared.frame.Frame.{Frame}
 use Rattle.spi_flash.specs.Loan.{Lent}

@@ -1,9 +1,11 @@
 // The case on standard input, and its trace on standard output.
 use flash_calls::call::Kind;
+use lines::text::Writer;
 use qspi::bytes;
+use qspi::command::SCRATCH_LEN;
 use std::io;
 use trace_case::advance;
-use trace_turns::{budget, place};
+use trace_turns::budget;
 
 // One byte more than the longest text, to tell a longer one.
 const INPUT: usize = 4194305;
@@ -27,18 +29,16 @@ fn print_case(
     reply: &mut [u8],
     out: &mut [u8],
 ) -> io::Result<()> {
-    let mut scratch = [0u8; 264];
+    let mut scratch = [0u8; SCRATCH_LEN];
     let mut trace = advance::start(kind);
     let most = budget::budget(text.len(), room.len());
-    let mut i = 0;
-    while i < most {
-        trace = advance::advance(trace, text, &mut scratch, room, reply, out, 0);
-        streams::write_all(rt, bytes::delivered(out, trace.at))?;
-        let place = trace.place;
-        if place::over(place) {
+    for _ in 0..most {
+        let mut written = Writer::new(out);
+        trace = advance::advance(trace, text, &mut scratch, room, reply, &mut written);
+        streams::write_all(rt, written.written())?;
+        if trace.place.is_over() {
             return Ok(());
         }
-        i += 1;
     }
     Ok(())
 }

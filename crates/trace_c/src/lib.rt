@@ -1,4 +1,4 @@
-// The traces of both drivers as functions of C, with the contracts of the library `trace`.
+// The traces of both drivers as functions of C, which call `trace_case::case::traced`.
 #![tactic(auto)]
 
 pub mod nand;

@@ -4,7 +4,11 @@ ghost use Rattle.lines.specs.Text.{text_of};
 ghost use Rattle.flash_calls.specs.declared.call.Kind.{Kind};
 ghost use Rattle.trace_case.specs.Case.{case_of};
 
-// See `trace::nand`.
+use flash_calls::call::Kind;
+use trace_case::case;
+
+// Puts the trace of a case into out and gives its length. What has no place there is cut. The room is the memory for a call's
+// buffer or data, the reply that for the bytes of a data reply.
 #[unsafe(no_mangle)]
 pub extern "C" fn nand_trace_case(
     text: &[u8],
@@ -16,5 +20,5 @@ pub extern "C" fn nand_trace_case(
     ensures room_after { room.new ≡ (case_of Kind.Nand text.now room.old reply.old out.old).room }
     ensures reply_after { reply.new ≡ (case_of Kind.Nand text.now room.old reply.old out.old).reply }
 {
-    trace::nand::nand_trace_case(text, room, reply, out)
+    case::traced(Kind::Nand, text, room, reply, out)
 }

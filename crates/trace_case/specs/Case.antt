@@ -16,16 +16,16 @@ use Rattle.trace_turns.specs.Place as place
 use Rattle.trace_turns.specs.declared.place.Place.{Place}
 use Rattle.trace_case.specs.declared.advance.Trace.{Trace}
 
-abbrev pub trace_of : Stepped → Settings → Place → ℕ → Trace
-trace_of stepped settings place at = record { stepped = stepped; settings = settings; place = place; at = at }
+abbrev pub trace_of : Stepped → Settings → Place → Trace
+trace_of stepped settings place = record { stepped = stepped; settings = settings; place = place }
 
 -- no driver is built, and the settings are "none at first"
 abbrev pub start_of : Kind → Trace
-start_of kind = trace_of (fresh_of kind) (none_of kind) place.start_of 0
+start_of kind = trace_of (fresh_of kind) (none_of kind) place.start_of
 
 -- after a turn whose question has been answered by the driver
 abbrev pub traced_by : Turn → Stepped → Trace
-traced_by turn stepped = trace_of stepped turn.settings (begun_in turn.place turn.ask stepped.given) turn.at
+traced_by turn stepped = trace_of stepped turn.settings (begun_in turn.place turn.ask stepped.given)
 
 -- the driver with what it gave last, where the trace stands, the lent bytes and what was printed
 pub record Traced : Type 0 where
@@ -63,7 +63,11 @@ unfoldable pub turns_of : ℕ → List ℕ → Traced → Traced
 turns_of zero text t = t
 turns_of (suc more) text t = pick (place.over_of t.place) t (turns_of more text (turn_after text t))
 
+-- the turns of a case, behind what is written
+unfoldable pub case_behind : Kind → List ℕ → List ℕ → List ℕ → Text → Traced
+case_behind kind text room reply written =
+    turns_of (budget_of (length text) (length room)) text (traced_to (start_of kind) (replicate 264 0) room reply written)
+
 -- the trace of a case, with the memory that it uses
-unfoldable pub case_of : Kind → List ℕ → List ℕ → List ℕ → List ℕ → Traced
-case_of kind text room reply out =
-    turns_of (budget_of (length text) (length room)) text (traced_to (start_of kind) (replicate 264 0) room reply (text_of out 0))
+abbrev pub case_of : Kind → List ℕ → List ℕ → List ℕ → List ℕ → Traced
+case_of kind text room reply out = case_behind kind text room reply (text_of out 0)

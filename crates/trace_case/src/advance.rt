@@ -1,6 +1,6 @@
 // One turn of a trace, and what it asks of the driver.
 ghost use Rattle.std.specs.Prelude.{◌≡◌};
-ghost use Rattle.lines.specs.Text.{text_of};
+ghost use Rattle.lines.specs.Writing.{text_in, SameRoom};
 ghost use Rattle.trace_case.specs.Case.{start_of, traced_by, traced_to, turn_after};
 
 use dialect::settings;
@@ -11,7 +11,7 @@ use flash_calls::call::Kind;
 use flash_lent::lent;
 use flash_turns::state::Turn;
 use flash_turns::{state, turn};
-use trace_turns::place;
+use lines::text::Writer;
 use trace_turns::place::Place;
 
 #[derive(Clone, Copy)]
@@ -21,8 +21,6 @@ pub struct Trace {
     // The settings for the next `new`.
     pub settings: Settings,
     pub place: Place,
-    // The place behind what was printed.
-    pub at: usize,
 }
 
 // Before the first line.
@@ -32,8 +30,7 @@ pub fn start(kind: Kind) -> Trace
     Trace {
         stepped: drive::fresh(kind),
         settings: settings::none(kind),
-        place: place::start(),
-        at: 0,
+        place: Place::start(),
     }
 }
 
@@ -41,46 +38,36 @@ pub fn start(kind: Kind) -> Trace
 fn traced_by(turn: Turn, stepped: Stepped) -> Trace
     ensures { result ≡ traced_by turn stepped }
 {
-    let settings = turn.settings;
-    let place = turn.place;
-    let ask = turn.ask;
-    let given = stepped.given;
     Trace {
-        stepped: stepped,
-        settings: settings,
-        place: state::begun_in(place, ask, given),
-        at: turn.at,
+        stepped,
+        settings: turn.settings,
+        place: state::begun_in(turn.place, turn.ask, stepped.given),
     }
 }
 
-// One turn, which prints from this place on. A trace that is over stays as it is.
+// One turn, which prints behind what is written. A trace that is over stays as it is.
 pub fn advance(
     trace: Trace,
     text: &[u8],
     scratch: &mut [u8],
     room: &mut [u8],
     reply: &mut [u8],
-    out: &mut [u8],
-    at: usize,
+    out: &mut Writer,
 ) -> Trace
-    ensures { traced_to result scratch.new room.new reply.new (text_of out.new result.at) ≡ turn_after text.now (traced_to trace scratch.old room.old reply.old (text_of out.old at)) }
+    ensures same { SameRoom out.old out.new }
+    ensures traced { traced_to result scratch.new room.new reply.new (text_in out.new) ≡ turn_after text.now (traced_to trace scratch.old room.old reply.old (text_in out.old)) }
 {
     let stepped = trace.stepped;
-    let settings = trace.settings;
-    let place = trace.place;
-    let given = stepped.given;
     let turn = turn::turn(
-        settings,
-        place,
-        given,
+        trace.settings,
+        trace.place,
+        stepped.given,
         stepped.delivered,
         text,
         scratch,
         room,
         reply,
         out,
-        at,
     );
-    let ask = turn.ask;
-    traced_by(turn, lent::asked(stepped, ask, scratch, room, reply))
+    traced_by(turn, lent::asked(stepped, turn.ask, scratch, room, reply))
 }

@@ -2,13 +2,13 @@
 use Rattle.std.specs.Prelude.{ℕ, false}
 use Rattle.qspi.specs.Choice.{pick}
 use Rattle.case_text.specs.declared.line.Line.{Line}
-use Rattle.trace_turns.specs.Place.{place_of, in_mode, read_to}
+use Rattle.trace_turns.specs.Place.{in_mode, read_to}
 use Rattle.trace_turns.specs.declared.place.Mode.{Mode}
 use Rattle.trace_turns.specs.declared.place.Place.{Place}
 
 -- "Settings may stand between calls": no reply follows one
 abbrev pub settled_at : Place → ℕ → Place
-settled_at place next = place_of place.takes place.begun next false place.mode
+settled_at place next = record place { at = next; replies = false }
 
 -- "Replies left when a call ends are passed over"; elsewhere a reply does not follow the page
 unfoldable pub left_over : Place → ℕ → Place
@@ -20,9 +20,6 @@ between_at place Line.Passed next = read_to place next
 between_at place Line.Done next = left_over place next
 between_at place Line.Data next = left_over place next
 between_at place (Line.BusError code) next = left_over place next
-between_at place Line.NoQuad next = settled_at place next
 between_at place (Line.Quad q) next = settled_at place next
-between_at place Line.NoOwn next = settled_at place next
 between_at place (Line.Own n) next = settled_at place next
 between_at place Line.Call next = place
-between_at place Line.Bad next = in_mode place Mode.Bad

@@ -5,11 +5,8 @@ use Rattle.spi_flash.specs.declared.loan.Takes.{Takes}
 use Rattle.trace_turns.specs.declared.place.Mode.{Mode}
 use Rattle.trace_turns.specs.declared.place.Place.{Place}
 
-abbrev pub place_of : Takes → Bool → ℕ → Bool → Mode → Place
-place_of takes begun at replies mode = record { takes = takes; begun = begun; at = at; replies = replies; mode = mode }
-
 abbrev pub start_of : Place
-start_of = place_of Takes.Nothing false 0 false Mode.Reading
+start_of = record { takes = Takes.Nothing; begun = false; at = 0; replies = false; mode = Mode.Reading }
 
 abbrev pub over_at : Mode → Bool
 over_at Mode.Reading = false
@@ -23,17 +20,17 @@ unfoldable pub over_of : Place → Bool
 over_of place = over_at place.mode
 
 abbrev pub in_mode : Place → Mode → Place
-in_mode place mode = place_of place.takes place.begun place.at place.replies mode
+in_mode place mode = record place { mode = mode }
 
 abbrev pub read_to : Place → ℕ → Place
-read_to place next = place_of place.takes place.begun next place.replies place.mode
+read_to place next = record place { at = next }
 
 -- a call handed to the driver: "then its replies, one a line"
 abbrev pub started_of : Takes → Bool → ℕ → Place
-started_of takes begun next = place_of takes begun next true Mode.Giving
+started_of takes begun next = record { takes = takes; begun = begun; at = next; replies = true; mode = Mode.Giving }
 
 abbrev pub gave_to : Place → ℕ → Place
-gave_to place next = place_of place.takes place.begun next true Mode.Giving
+gave_to place next = record place { at = next; replies = true; mode = Mode.Giving }
 
 -- "the number of bytes delivered": none by a call that was turned away
 abbrev pub counted_of : Place → ℕ → ℕ

@@ -9,11 +9,12 @@ use trace_words::{print, request};
 // one that does: with the end of a call and a turn that finds no reply these are fewer than 16. Two turns are left for the end.
 const LINE_TURNS: usize = 16;
 
+#[tactic(auto, unfolding(crate::specs::Budget::budget_of))]
 // More turns than any text of this length takes: a line has one character at least, and brings one buffer at most.
 pub fn budget(text_len: usize, room_len: usize) -> usize
     ensures { result ≡ budget_of text_len room_len }
 {
-    let lines = request::at_most(line::TEXT_MOST, text_len) + 2;
-    let pieces = request::at_most(request::BUFFER_MOST, room_len) / print::PIECE;
+    let lines = line::TEXT_MOST.min(text_len) + 2;
+    let pieces = request::BUFFER_MOST.min(room_len) / print::PIECE;
     lines * (pieces + LINE_TURNS)
 }

@@ -1,6 +1,6 @@
 // Where a trace stands in its text.
 ghost use Rattle.std.specs.Prelude.{◌≡◌};
-ghost use Rattle.trace_turns.specs.Place.{place_of, start_of, over_of, in_mode, read_to, started_of, gave_to, counted_of, end_mode};
+ghost use Rattle.trace_turns.specs.Place.{start_of, over_of, in_mode, read_to, started_of, gave_to, counted_of, end_mode};
 
 use spi_flash::loan::Takes;
 
@@ -21,6 +21,7 @@ pub enum Mode {
     Over,
 }
 
+// The two flags say nothing of whether another field is there: what the call takes and the position hold beside either.
 #[derive(Clone, Copy)]
 pub struct Place {
     // What the call takes, in the room.
@@ -34,71 +35,71 @@ pub struct Place {
     pub mode: Mode,
 }
 
-pub fn place_of(takes: Takes, begun: bool, at: usize, replies: bool, mode: Mode) -> Place
-    ensures { result ≡ place_of takes begun at replies mode }
-{
-    Place {
-        takes: takes,
-        begun: begun,
-        at: at,
-        replies: replies,
-        mode: mode,
+impl Place {
+    // Before the first line.
+    pub fn start() -> Place
+        ensures { result ≡ start_of }
+    {
+        Place {
+            takes: Takes::Nothing,
+            begun: false,
+            at: 0,
+            replies: false,
+            mode: Mode::Reading,
+        }
     }
-}
 
-// Before the first line.
-pub fn start() -> Place
-    ensures { result ≡ start_of }
-{
-    place_of(Takes::Nothing, false, 0, false, Mode::Reading)
-}
-
-pub fn over(place: Place) -> bool
-    ensures { result ≡ over_of place }
-{
-    let mode = place.mode;
-    if let Mode::Over = mode { true } else { false }
-}
-
-pub fn in_mode(place: Place, mode: Mode) -> Place
-    ensures { result ≡ in_mode place mode }
-{
-    let takes = place.takes;
-    place_of(takes, place.begun, place.at, place.replies, mode)
-}
-
-// A line is passed over.
-pub fn read_to(place: Place, next: usize) -> Place
-    ensures { result ≡ read_to place next }
-{
-    let takes = place.takes;
-    let mode = place.mode;
-    place_of(takes, place.begun, next, place.replies, mode)
-}
-
-// A call has been handed to the driver.
-pub fn started(takes: Takes, begun: bool, next: usize) -> Place
-    ensures { result ≡ started_of takes begun next }
-{
-    place_of(takes, begun, next, true, Mode::Giving)
-}
-
-// The driver has given something.
-pub fn gave(place: Place, next: usize) -> Place
-    ensures { result ≡ gave_to place next }
-{
-    let takes = place.takes;
-    place_of(takes, place.begun, next, true, Mode::Giving)
-}
-
-// How many bytes the call has delivered, by the driver's count.
-pub fn counted(place: Place, delivered: usize) -> usize
-    ensures { result ≡ counted_of place delivered }
-{
-    if place.begun {
-        return delivered;
+    #[tactic(auto, unfolding(crate::specs::Place::over_of))]
+    pub fn is_over(self) -> bool
+        ensures { result ≡ over_of self }
+    {
+        matches!(self.mode, Mode::Over)
     }
-    0
+
+    pub fn in_mode(self, mode: Mode) -> Place
+        ensures { result ≡ in_mode self mode }
+    {
+        Place { mode, ..self }
+    }
+
+    // A line is passed over.
+    pub fn read_to(self, next: usize) -> Place
+        ensures { result ≡ read_to self next }
+    {
+        Place { at: next, ..self }
+    }
+
+    // A call has been handed to the driver.
+    pub fn started(takes: Takes, begun: bool, next: usize) -> Place
+        ensures { result ≡ started_of takes begun next }
+    {
+        Place {
+            takes,
+            begun,
+            at: next,
+            replies: true,
+            mode: Mode::Giving,
+        }
+    }
+
+    // The driver has given something.
+    pub fn gave(self, next: usize) -> Place
+        ensures { result ≡ gave_to self next }
+    {
+        Place {
+            at: next,
+            replies: true,
+            mode: Mode::Giving,
+            ..self
+        }
+    }
+
+    // How many bytes the call has delivered, by the driver's count.
+    pub fn counted(self, delivered: usize) -> usize
+        ensures { result ≡ counted_of self delivered }
+    {
+        if self.begun { delivered } else { 0 }
+    }
 }
 
 // The buffer of a call is shown behind its end.
@@ -106,8 +107,7 @@ pub fn end_mode(takes: Takes) -> Mode
     ensures { result ≡ end_mode takes }
 {
     match takes {
-        Takes::Nothing => Mode::Reading,
         Takes::Buffer(_) => Mode::Showing(0),
-        Takes::Data(_) => Mode::Reading,
+        Takes::Nothing | Takes::Data(_) => Mode::Reading,
     }
 }

@@ -1,19 +1,12 @@
 // A turn that prints a piece of the caller's buffer, or that a line is bad.
 ghost use Rattle.std.specs.Prelude.{◌≡◌};
-ghost use Rattle.lines.specs.Text.{text_of};
+ghost use Rattle.lines.specs.Writing.{text_in, SameRoom};
 ghost use Rattle.trace_turns.specs.Show.{shown_to, shown_mode, showing_of, bad_of};
 
-use crate::place;
 use crate::place::{Mode, Place};
 use case_text::line;
+use lines::text::Writer;
 use trace_words::{loan, print};
-
-// Where the trace stands after a turn, and the place behind what was printed.
-#[derive(Clone, Copy)]
-pub struct Shown {
-    pub place: Place,
-    pub at: usize,
-}
 
 fn shown_mode(len: usize, from: usize) -> Mode
     ensures { result ≡ shown_mode len from }
@@ -24,25 +17,22 @@ fn shown_mode(len: usize, from: usize) -> Mode
     Mode::Reading
 }
 
-pub fn showing(place: Place, from: usize, room: &[u8], out: &mut [u8], at: usize) -> Shown
-    ensures { shown_to result.place (text_of out.new result.at) ≡ showing_of place from room.now (text_of out.old at) }
+// Where the trace stands behind a piece.
+#[tactic(auto, unfolding(crate::specs::Show::showing_of))]
+pub fn showing(place: Place, from: usize, room: &[u8], out: &mut Writer) -> Place
+    ensures same { SameRoom out.old out.new }
+    ensures shown { shown_to result (text_in out.new) ≡ showing_of place from room.now (text_in out.old) }
 {
-    let takes = place.takes;
-    let buffer = loan::buffer(takes, room);
-    let behind = print::piece(out, at, buffer, from);
-    let mode = shown_mode(buffer.len(), from);
-    Shown {
-        place: place::in_mode(place, mode),
-        at: behind,
-    }
+    let buffer = loan::buffer(place.takes, room);
+    print::piece(out, buffer, from);
+    place.in_mode(shown_mode(buffer.len(), from))
 }
 
-pub fn bad(place: Place, text: &[u8], out: &mut [u8], at: usize) -> Shown
-    ensures { shown_to result.place (text_of out.new result.at) ≡ bad_of place text.now (text_of out.old at) }
+#[tactic(auto, unfolding(crate::specs::Show::bad_of))]
+pub fn bad(place: Place, text: &[u8], out: &mut Writer) -> Place
+    ensures same { SameRoom out.old out.new }
+    ensures shown { shown_to result (text_in out.new) ≡ bad_of place text.now (text_in out.old) }
 {
-    let behind = print::bad(out, at, line::number_at(text, place.at));
-    Shown {
-        place: place::in_mode(place, Mode::Over),
-        at: behind,
-    }
+    print::bad(out, line::number_at(text, place.at));
+    place.in_mode(Mode::Over)
 }

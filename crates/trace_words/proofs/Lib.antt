@@ -1,5 +1,2 @@
-pub mod Values
-pub mod Pieces
 pub mod Filled
-pub mod Within
-pub mod Others
+pub mod Values

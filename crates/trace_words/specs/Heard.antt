@@ -10,12 +10,9 @@ is_call Line.Passed = false
 is_call Line.Done = false
 is_call Line.Data = false
 is_call (Line.BusError code) = false
-is_call Line.NoQuad = false
 is_call (Line.Quad q) = false
-is_call Line.NoOwn = false
 is_call (Line.Own n) = false
 is_call Line.Call = true
-is_call Line.Bad = false
 
 -- "then its replies, one a line, for each bus action in turn"; a setting or a call tells that none is left
 abbrev pub heard_in : Line → Heard
@@ -24,9 +21,6 @@ heard_in Line.Passed = Heard.Passed
 heard_in Line.Done = Heard.Reply Reply.Done
 heard_in Line.Data = Heard.Bytes
 heard_in (Line.BusError code) = Heard.Reply (Reply.Error code)
-heard_in Line.NoQuad = Heard.Spent
 heard_in (Line.Quad q) = Heard.Spent
-heard_in Line.NoOwn = Heard.Spent
 heard_in (Line.Own n) = Heard.Spent
 heard_in Line.Call = Heard.Spent
-heard_in Line.Bad = Heard.Bad

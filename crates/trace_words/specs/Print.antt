@@ -1,7 +1,8 @@
 -- Lines of a trace beside those of actions and of a call's number ("Out").
-use Rattle.std.specs.Prelude.{ℕ, ◌+◌, ◌/◌, List, [], ◌∷◌, ◌++◌, length, take, drop, eqb, ltb}
+use Rattle.std.specs.Prelude.{ℕ, ◌+◌, List, [], ◌∷◌, ◌++◌, length, take, drop, eqb, ltb}
+use Rattle.std.specs.List.{flat_map}
 use Rattle.qspi.specs.Choice.{pick}
-use Rattle.lines.specs.Text.{digit_of}
+use Rattle.lines.specs.Text.{two_digits}
 use Rattle.lines.specs.Line.{field_of}
 use Rattle.spi_flash.specs.declared.loan.Takes.{Takes}
 
@@ -23,9 +24,8 @@ count_line Takes.Nothing n = []
 count_line (Takes.Buffer k) n = delivered_line n
 count_line (Takes.Data k) n = []
 
-unfoldable pub fields_of : List ℕ → List ℕ
-fields_of [] = []
-fields_of (v ∷ vs) = field_of v ++ fields_of vs
+abbrev pub fields_of : List ℕ → List ℕ
+fields_of = flat_map field_of
 
 -- "V and the values of the answer in decimal, where it has some"
 unfoldable pub values_line : List ℕ → List ℕ
@@ -33,9 +33,8 @@ values_line [] = []
 values_line (v ∷ vs) = (86 ∷ fields_of (v ∷ vs)) ++ 10 ∷ []
 
 -- bytes in hexadecimal, "without spaces"
-unfoldable pub solid_of : List ℕ → List ℕ
-solid_of [] = []
-solid_of (b ∷ bs) = digit_of (b / 16) ∷ digit_of b ∷ solid_of bs
+abbrev pub solid_of : List ℕ → List ℕ
+solid_of = flat_map two_digits
 
 -- "B" before the first byte; nothing follows it where the buffer is empty
 unfoldable pub head_of : ℕ → ℕ → List ℕ

@@ -1,6 +1,6 @@
 // What a line says where a reply is awaited.
 ghost use Rattle.std.specs.Prelude.{◌≡◌};
-ghost use Rattle.trace_words.specs.Heard.{heard_in};
+ghost use Rattle.trace_words.specs.Heard.{is_call, heard_in};
 
 use case_text::line::Line;
 use qspi::bus::Reply;
@@ -15,7 +15,12 @@ pub enum Heard {
     Bytes,
     // No reply is left.
     Spent,
-    Bad,
+}
+
+pub fn is_call(line: Line) -> bool
+    ensures { result ≡ is_call line }
+{
+    matches!(line, Line::Call)
 }
 
 // A call is taken for a good one: its line has to be looked at first.
@@ -23,16 +28,10 @@ pub fn heard_in(line: Line) -> Heard
     ensures { result ≡ heard_in line }
 {
     match line {
-        Line::End => Heard::Spent,
         Line::Passed => Heard::Passed,
         Line::Done => Heard::Reply(Reply::Done),
         Line::Data => Heard::Bytes,
         Line::BusError(code) => Heard::Reply(Reply::Error(code)),
-        Line::NoQuad => Heard::Spent,
-        Line::Quad(_) => Heard::Spent,
-        Line::NoOwn => Heard::Spent,
-        Line::Own(_) => Heard::Spent,
-        Line::Call => Heard::Spent,
-        Line::Bad => Heard::Bad,
+        Line::End | Line::Quad(_) | Line::Own(_) | Line::Call => Heard::Spent,
     }
 }

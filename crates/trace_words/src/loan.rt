@@ -13,9 +13,8 @@ pub fn buffer(takes: Takes, room: &[u8]) -> &[u8]
     ensures { result.now ≡ buffer_of takes room.now }
 {
     match takes {
-        Takes::Nothing => bytes::delivered(room, 0),
         Takes::Buffer(n) => bytes::delivered(room, n),
-        Takes::Data(_) => bytes::delivered(room, 0),
+        Takes::Nothing | Takes::Data(_) => bytes::delivered(room, 0),
     }
 }
 
@@ -23,9 +22,8 @@ pub fn data(takes: Takes, room: &[u8]) -> &[u8]
     ensures { result.now ≡ data_of takes room.now }
 {
     match takes {
-        Takes::Nothing => bytes::delivered(room, 0),
-        Takes::Buffer(_) => bytes::delivered(room, 0),
         Takes::Data(n) => bytes::delivered(room, n),
+        Takes::Nothing | Takes::Buffer(_) => bytes::delivered(room, 0),
     }
 }
 
@@ -33,13 +31,8 @@ pub fn data(takes: Takes, room: &[u8]) -> &[u8]
 fn fill(room: &mut [u8], n: usize)
     ensures { room.new ≡ filled_of n room.old }
 {
-    if room.len() < n {
-        return;
-    }
-    let mut i = 0;
-    while i < n {
-        room[i] = FILL;
-        i += 1;
+    if n <= room.len() {
+        room[..n].fill(FILL);
     }
 }
 

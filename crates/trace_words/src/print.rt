@@ -1,125 +1,104 @@
 // Lines of a trace beside those of actions and of a call's number: the same for every driver.
 ghost use Rattle.std.specs.Prelude.{◌+◌, ◌≡◌, ltb};
-ghost use Rattle.lines.specs.Text.{text_of, appended};
+ghost use Rattle.lines.specs.Writing.{Appends};
 ghost use Rattle.spi_flash.specs.Error.{error_values};
-ghost use Rattle.trace_words.specs.Print.{call_line, bad_line, delivered_line, count_line, values_line, solid_of, head_of, piece_of};
+ghost use Rattle.trace_words.specs.Print.{call_line, bad_line, count_line, values_line, solid_of, head_of, piece_of};
 
 use case_text::word;
-use lines::{line, text};
+use lines::text;
+use lines::text::Writer;
 use qspi::bytes;
 use spi_flash::error::FlashError;
 use spi_flash::loan::Takes;
 
 // Before the values of an answer.
-pub const VALUES: u8 = 86;
+pub const VALUES: u8 = b'V';
 
-const DELIVERED: u8 = 71;
+const DELIVERED: u8 = b'G';
 
-const BUFFER: u8 = 66;
+const BUFFER: u8 = b'B';
 
 // So many bytes of a buffer are printed in one turn: a program's output needs no more room.
 pub const PIECE: usize = 16384;
 
-pub fn call(out: &mut [u8], at: usize, name: &[u8]) -> usize
-    ensures { text_of out.new result ≡ appended (call_line name.now) (text_of out.old at) }
+#[tactic(auto, using(lines::proofs::Appending::appended_behind), unfolding(lines::specs::Text::appended, crate::specs::Print::call_line))]
+pub fn call(out: &mut Writer, name: &[u8])
+    ensures { Appends (call_line name.now) out.old out.new }
 {
-    let behind = text::put_all(out, at, b"call ");
-    let end = text::put_all(out, behind, name);
-    text::put(out, end, text::NEWLINE)
+    out.put_all(b"call ");
+    out.put_all(name);
+    out.put(text::NEWLINE)
 }
 
-pub fn bad(out: &mut [u8], at: usize, number: usize) -> usize
-    ensures { text_of out.new result ≡ appended (bad_line number) (text_of out.old at) }
+#[tactic(auto, using(lines::proofs::Appending::appended_behind), unfolding(lines::specs::Text::appended, crate::specs::Print::bad_line))]
+pub fn bad(out: &mut Writer, number: usize)
+    ensures { Appends (bad_line number) out.old out.new }
 {
-    let behind = text::put_all(out, at, b"bad case");
-    let end = line::field(out, behind, number as u64);
-    text::put(out, end, text::NEWLINE)
-}
-
-fn delivered(out: &mut [u8], at: usize, n: usize) -> usize
-    ensures { text_of out.new result ≡ appended (delivered_line n) (text_of out.old at) }
-{
-    let behind = text::put(out, at, DELIVERED);
-    let end = line::field(out, behind, n as u64);
-    text::put(out, end, text::NEWLINE)
+    out.put_all(b"bad case");
+    out.field(number as u64);
+    out.put(text::NEWLINE)
 }
 
 // Only a call with a buffer tells how much was delivered.
-pub fn count(out: &mut [u8], at: usize, takes: Takes, n: usize) -> usize
-    ensures { text_of out.new result ≡ appended (count_line takes n) (text_of out.old at) }
+#[tactic(auto, using(lines::proofs::Appending::appended_behind), unfolding(lines::specs::Text::appended, crate::specs::Print::delivered_line))]
+pub fn count(out: &mut Writer, takes: Takes, n: usize)
+    ensures { Appends (count_line takes n) out.old out.new }
 {
-    match takes {
-        Takes::Nothing => at,
-        Takes::Buffer(_) => delivered(out, at, n),
-        Takes::Data(_) => at,
+    if let Takes::Buffer(_) = takes {
+        out.numbered(DELIVERED, n as u64)
     }
 }
 
 // Only a bus error has a value: its code.
-pub fn error_values(out: &mut [u8], at: usize, error: FlashError) -> usize
-    ensures { text_of out.new result ≡ appended (values_line (error_values error)) (text_of out.old at) }
+#[tactic(auto, using(lines::proofs::Appending::appended_behind), unfolding(lines::specs::Text::appended, crate::specs::Print::values_line))]
+pub fn error_values(out: &mut Writer, error: FlashError)
+    ensures { Appends (values_line (error_values error)) out.old out.new }
 {
-    let FlashError::Spi(code) = error else {
-        return at;
-    };
-    let behind = text::put(out, at, VALUES);
-    let end = line::field(out, behind, code as u64);
-    text::put(out, end, text::NEWLINE)
+    if let FlashError::Spi(code) = error {
+        out.numbered(VALUES, u64::from(code))
+    }
 }
 
 // ---- the buffer
 
 // Bytes without blanks.
-fn solid(out: &mut [u8], at: usize, s: &[u8]) -> usize
-    ensures { text_of out.new result ≡ appended (solid_of s.now) (text_of out.old at) }
+#[tactic(auto, unfolding(lines::specs::Text::appended))]
+fn solid(out: &mut Writer, s: &[u8])
+    ensures { Appends (solid_of s.now) out.old out.new }
 {
-    let mut behind = at;
-    let mut i = 0;
-    while i < s.len() {
-        let b = s[i];
-        behind = text::put(out, behind, text::digit(b / 16));
-        behind = text::put(out, behind, text::digit(b));
-        i += 1;
+    for b in s {
+        out.byte(*b);
     }
-    behind
 }
 
 // Before the first piece B, and a blank where a byte follows.
-fn head(out: &mut [u8], at: usize, from: usize, len: usize) -> usize
-    ensures { text_of out.new result ≡ appended (head_of from len) (text_of out.old at) }
+#[tactic(auto, using(lines::proofs::Appending::appended_behind), unfolding(lines::specs::Text::appended, crate::specs::Print::head_of))]
+fn head(out: &mut Writer, from: usize, len: usize)
+    ensures { Appends (head_of from len) out.old out.new }
 {
-    if from != 0 {
-        return at;
+    if from == 0 {
+        out.put(BUFFER);
+        if len != 0 {
+            out.put(text::BLANK);
+        }
     }
-    let behind = text::put(out, at, BUFFER);
-    if len == 0 {
-        return behind;
-    }
-    text::put(out, behind, text::BLANK)
 }
 
 // Whether bytes are left behind the piece that begins at a place.
 pub fn more(len: usize, from: usize) -> bool
     ensures { result ≡ ltb (from + 16384) len }
 {
-    if len <= from {
-        return false;
-    }
-    PIECE < len - from
+    PIECE < len.saturating_sub(from)
 }
 
 // A piece of the buffer's line. The first begins it, the last ends it.
-pub fn piece(out: &mut [u8], at: usize, buffer: &[u8], from: usize) -> usize
-    ensures { text_of out.new result ≡ appended (piece_of buffer.now from) (text_of out.old at) }
+#[tactic(auto, using(lines::proofs::Appending::appended_behind), unfolding(lines::specs::Text::appended, crate::specs::Print::piece_of))]
+pub fn piece(out: &mut Writer, buffer: &[u8], from: usize)
+    ensures { Appends (piece_of buffer.now from) out.old out.new }
 {
-    let behind = head(out, at, from, buffer.len());
-    let end = solid(
-        out,
-        behind,
-        bytes::delivered(word::behind(buffer, from), PIECE),
-    );
-    if more(buffer.len(), from) {
-        return end;
+    head(out, from, buffer.len());
+    solid(out, bytes::delivered(word::behind(buffer, from), PIECE));
+    if !more(buffer.len(), from) {
+        out.put(text::NEWLINE)
     }
-    text::put(out, end, text::NEWLINE)
 }

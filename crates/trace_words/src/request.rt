@@ -1,15 +1,12 @@
-// What the line of a call says behind its name: numbers, and what the call lends.
-ghost use Rattle.std.specs.Prelude.{◌≡◌};
-ghost use Rattle.trace_words.specs.Request.{at_most, number_up_to, buffer_loan, data_loan, plain_of, one_number, two_numbers, lending_of, said_of};
+// What the line of a call says behind its name: numbers, and what the call lends. What follows no rule says nothing.
+ghost use Rattle.std.specs.Prelude.{◌≡◌, ◌≤◌, IfSome};
+ghost use Rattle.trace_words.specs.Request.{number_up_to, buffer_loan, data_loan, plain_of, one_number, two_numbers, lending_of, said_of};
 
 use case_text::word;
-use case_text::word::Number;
 use spi_flash::loan::Takes;
 
 // The longest buffer that is passed on.
 pub const BUFFER_MOST: usize = 16777216;
-
-const AT_SIGN: u8 = 64;
 
 // The words of a call without a number, with one, and with two.
 const WORDS_PLAIN: usize = 2;
@@ -34,153 +31,120 @@ pub enum Form {
     Buffer,
     // A number, and the bytes of the data.
     Data,
-    // There is no such call.
-    Unknown,
-}
-
-#[derive(Clone, Copy)]
-pub enum Loan {
-    Lent(Takes),
-    Malformed,
 }
 
 // A number that is not written is 0.
 #[derive(Clone, Copy)]
-pub enum Request {
-    Numbers {
-        first: u64,
-        second: u64,
-        takes: Takes,
-    },
-    Bad,
-}
-
-pub fn at_most(most: usize, n: usize) -> usize
-    ensures { result ≡ at_most most n }
-{
-    if n <= most { n } else { most }
+pub struct Request {
+    pub first: u64,
+    pub second: u64,
+    pub takes: Takes,
 }
 
 // A number that is not too large.
-fn bounded(s: &[u8], most: u64) -> Number
-    ensures { result ≡ number_up_to most s.now }
+#[tactic(auto, unfolding(crate::specs::Request::number_up_to))]
+fn bounded(s: &[u8], most: u64) -> Option<u64>
+    ensures value { result ≡ number_up_to most s.now }
+    ensures upper_bound { IfSome result (λ n. n ≤ most) }
 {
-    let Number::Value(n) = word::parsed(s) else {
-        return Number::Malformed;
-    };
-    if n <= most {
-        return Number::Value(n);
-    }
-    Number::Malformed
+    let n = word::parsed(s)?;
+    if n <= most { Some(n) } else { None }
 }
 
 // ---- what a call lends
 
 // The length of a buffer for which there is room.
-fn buffer(line: &[u8], room_len: usize) -> Loan
+#[tactic(auto, unfolding(crate::specs::Request::buffer_loan))]
+fn buffer(line: &[u8], room_len: usize) -> Option<Takes>
     ensures { result ≡ buffer_loan line.now room_len }
 {
-    let most = at_most(BUFFER_MOST, room_len);
-    let Number::Value(n) = bounded(word::last(line), most as u64) else {
-        return Loan::Malformed;
-    };
-    Loan::Lent(Takes::Buffer(n as usize))
+    let n = bounded(word::last(line), BUFFER_MOST.min(room_len) as u64)?;
+    Some(Takes::Buffer(n as usize))
 }
 
 // The digits of a call's data stand behind the @ of the last word.
-fn data(line: &[u8], room_len: usize) -> Loan
+#[tactic(auto, unfolding(crate::specs::Request::data_loan, crate::specs::Request::data_fits, crate::specs::Request::digits_after))]
+fn data(line: &[u8], room_len: usize) -> Option<Takes>
     ensures { result ≡ data_loan line.now room_len }
 {
-    let lent = word::last(line);
-    if lent.len() == 0 {
-        return Loan::Malformed;
+    let [b'@', digits @ ..] = word::last(line) else {
+        return None;
+    };
+    let n = digits.len() / 2;
+    if word::is_hex(digits) && n <= room_len {
+        return Some(Takes::Data(n));
     }
-    if lent[0] != AT_SIGN {
-        return Loan::Malformed;
-    }
-    let digits = word::behind(lent, 1);
-    if !word::is_hex(digits) {
-        return Loan::Malformed;
-    }
-    if room_len < digits.len() / 2 {
-        return Loan::Malformed;
-    }
-    Loan::Lent(Takes::Data(digits.len() / 2))
+    None
 }
 
 // ---- the forms
 
-fn plain(line: &[u8]) -> Request
-    ensures { result ≡ plain_of line.now }
+#[tactic(auto, unfolding(crate::specs::Request::plain_of))]
+fn plain(line: &[u8]) -> Option<Request>
+    ensures value { result ≡ plain_of line.now }
+    ensures none_written { IfSome result (λ r. (r.first ≡ 0) × (r.second ≡ 0)) }
 {
     if word::words(line) != WORDS_PLAIN {
-        return Request::Bad;
+        return None;
     }
-    Request::Numbers {
+    Some(Request {
         first: 0,
         second: 0,
         takes: Takes::Nothing,
-    }
+    })
 }
 
-fn one(line: &[u8], most: u64) -> Request
-    ensures { result ≡ one_number line.now most }
+#[tactic(auto, unfolding(crate::specs::Request::one_number))]
+fn one(line: &[u8], most: u64) -> Option<Request>
+    ensures value { result ≡ one_number line.now most }
+    ensures within { IfSome result (λ r. (r.first ≤ most) × (r.second ≤ most)) }
 {
     if word::words(line) != WORDS_ONE {
-        return Request::Bad;
+        return None;
     }
-    let Number::Value(first) = bounded(word::word(line, FIRST), most) else {
-        return Request::Bad;
-    };
-    Request::Numbers {
-        first,
+    Some(Request {
+        first: bounded(word::word(line, FIRST), most)?,
         second: 0,
         takes: Takes::Nothing,
-    }
+    })
 }
 
-fn two(line: &[u8], most: u64) -> Request
-    ensures { result ≡ two_numbers line.now most }
+#[tactic(auto, unfolding(crate::specs::Request::two_numbers))]
+fn two(line: &[u8], most: u64) -> Option<Request>
+    ensures value { result ≡ two_numbers line.now most }
+    ensures within { IfSome result (λ r. (r.first ≤ most) × (r.second ≤ most)) }
 {
     if word::words(line) != WORDS_TWO {
-        return Request::Bad;
+        return None;
     }
-    let Number::Value(first) = bounded(word::word(line, FIRST), most) else {
-        return Request::Bad;
-    };
-    let Number::Value(second) = bounded(word::word(line, SECOND), most) else {
-        return Request::Bad;
-    };
-    Request::Numbers {
-        first,
-        second,
+    Some(Request {
+        first: bounded(word::word(line, FIRST), most)?,
+        second: bounded(word::word(line, SECOND), most)?,
         takes: Takes::Nothing,
-    }
+    })
 }
 
 // A number, and what is lent in the last word.
-fn lending(line: &[u8], most: u64, loan: Loan) -> Request
-    ensures { result ≡ lending_of line.now most loan }
+#[tactic(auto, unfolding(crate::specs::Request::lending_of))]
+fn lending(line: &[u8], most: u64, lent: Option<Takes>) -> Option<Request>
+    ensures value { result ≡ lending_of line.now most lent }
+    ensures within { IfSome result (λ r. (r.first ≤ most) × (r.second ≤ most)) }
 {
     if word::words(line) != WORDS_TWO {
-        return Request::Bad;
+        return None;
     }
-    let Number::Value(first) = bounded(word::word(line, FIRST), most) else {
-        return Request::Bad;
-    };
-    let Loan::Lent(takes) = loan else {
-        return Request::Bad;
-    };
-    Request::Numbers {
-        first,
+    Some(Request {
+        first: bounded(word::word(line, FIRST), most)?,
         second: 0,
-        takes,
-    }
+        takes: lent?,
+    })
 }
 
 // What a line of a form says, with numbers up to a bound and the room for what is lent.
-pub fn said(line: &[u8], form: Form, most: u64, room_len: usize) -> Request
-    ensures { result ≡ said_of line.now form most room_len }
+#[tactic(auto, unfolding(crate::specs::Request::said_of))]
+pub fn said(line: &[u8], form: Form, most: u64, room_len: usize) -> Option<Request>
+    ensures value { result ≡ said_of line.now form most room_len }
+    ensures within { IfSome result (λ r. (r.first ≤ most) × (r.second ≤ most)) }
 {
     match form {
         Form::Plain => plain(line),
@@ -188,6 +152,5 @@ pub fn said(line: &[u8], form: Form, most: u64, room_len: usize) -> Request
         Form::Two => two(line, most),
         Form::Buffer => lending(line, most, buffer(line, room_len)),
         Form::Data => lending(line, most, data(line, room_len)),
-        Form::Unknown => Request::Bad,
     }
 }

@@ -1,60 +1,64 @@
 // A value by its place in a short list, 0 past the end.
-ghost use Rattle.std.specs.Prelude.{[], ◌∷◌, ◌≡◌, get_or};
-ghost use Rattle.values.specs.Value.{flag_value};
+ghost use Rattle.std.specs.Prelude.{◌++◌, ◌≡◌, get_or, length};
+ghost use Rattle.values.specs.Value.{flag_value, setting_values};
+
+// The numbers of a setting.
+pub const SETTING_NUMBERS: usize = 4;
 
 pub fn flag(f: bool) -> u64
     ensures { result ≡ flag_value f }
 {
-    if f { 1 } else { 0 }
+    u64::from(f)
 }
 
-pub fn one(v: u64, i: usize) -> u64
-    ensures { result ≡ get_or (v ∷ []) i 0 }
+pub fn at(values: &[u64], i: usize) -> u64
+    ensures { result ≡ get_or values.now i 0 }
 {
-    match i {
-        0 => v,
-        _ => 0,
+    values.get(i).copied().unwrap_or(0)
+}
+
+// ---- a setting: the mark 0, or the mark 1 and its numbers
+
+fn setting_count(setting: Option<[u64; SETTING_NUMBERS]>) -> usize
+    ensures { result ≡ length (setting_values setting) }
+{
+    match setting {
+        None => 1,
+        Some(numbers) => 1 + numbers.len(),
     }
 }
 
-pub fn pair(a: u64, b: u64, i: usize) -> u64
-    ensures { result ≡ get_or (a ∷ b ∷ []) i 0 }
+fn setting_value(setting: Option<[u64; SETTING_NUMBERS]>, i: usize) -> u64
+    ensures { result ≡ get_or (setting_values setting) i 0 }
 {
-    match i {
-        0 => a,
-        1 => b,
-        _ => 0,
+    match setting {
+        None => 0,
+        Some(numbers) => { if i == 0 { 1 } else { at(&numbers, i - 1) } }
     }
 }
 
-pub fn triple(a: u64, b: u64, c: u64, i: usize) -> u64
-    ensures { result ≡ get_or (a ∷ b ∷ «c» ∷ []) i 0 }
+// ---- two settings, one behind the other
+
+pub fn settings_count(
+    first: Option<[u64; SETTING_NUMBERS]>,
+    second: Option<[u64; SETTING_NUMBERS]>,
+) -> usize
+    ensures { result ≡ length (setting_values first ++ setting_values second) }
 {
-    match i {
-        0 => a,
-        1 => b,
-        2 => c,
-        _ => 0,
-    }
+    setting_count(first) + setting_count(second)
 }
 
-pub fn four(a: u64, b: u64, c: u64, d: u64, i: usize) -> u64
-    ensures { result ≡ get_or (a ∷ b ∷ «c» ∷ «d» ∷ []) i 0 }
+pub fn settings_value(
+    first: Option<[u64; SETTING_NUMBERS]>,
+    second: Option<[u64; SETTING_NUMBERS]>,
+    i: usize,
+) -> u64
+    ensures { result ≡ get_or (setting_values first ++ setting_values second) i 0 }
 {
-    match i {
-        0 => a,
-        1 => b,
-        2 => c,
-        3 => d,
-        _ => 0,
-    }
-}
-
-pub fn five(a: u64, b: u64, c: u64, d: u64, e: u64, i: usize) -> u64
-    ensures { result ≡ get_or (a ∷ b ∷ «c» ∷ «d» ∷ «e» ∷ []) i 0 }
-{
-    match i {
-        0 => a,
-        _ => four(b, c, d, e, i - 1),
+    let before = setting_count(first);
+    if i < before {
+        setting_value(first, i)
+    } else {
+        setting_value(second, i - before)
     }
 }

@@ -1,21 +1,14 @@
-use native.Mathlib.Omega.{arith}
-use native.Mathlib.Numerals.{add-one}
-use Rattle.case_text.proofs.Words.{before-end, before_here, before_on}
+use Rattle.std.proofs.Common.{ap, ◌∙◌, ℕ, eqb, length, rules, Option}
+use Rattle.std.specs.Option.{unwrap_or}
+use Rattle.std.proofs.lemmas.Iterator.{YieldsList-from_slice}
+use Rattle.std.proofs.lemmas.Iterator.Search.{position_from_yields_List}
+use borrow.Author.Tests.{tests}
+use Rattle.case_text.specs.Word.{before_of}
 use Rattle.case_text.proofs.word.before.Goals as goal
 
-pub returns-then-s-i-clause-value : goal.returns-then-s-i-clause-value
-returns-then-s-i-clause-value c =
-    let a = c.args in
-    let i = c.loop-i.i in
-    let e = before_here a.mark a.s.now i c.loop-i-test.true c.if-s-i.true in omega arith
-
-pub loop-i-preserved : goal.loop-i-preserved
-loop-i-preserved c =
-    let a = c.args in
-    let i = c.loop-i.i in
-    let e = before_on a.mark a.s.now i c.loop-i-test.true c.if-s-i.false in (rw add-one (omega arith), omega arith)
-
 pub returns-clause-value : goal.returns-clause-value
+unfolding before_of
 returns-clause-value c =
-    let a = c.args in
-    let e = before-end a.mark a.s.now c.loop-i.i c.loop-i-test.false in omega arith
+    let s = c.args.s.now in
+    let place = position_from_yields_List (λ x. eqb x c.args.mark) _ _ c.position.result c.position.ensures.ran (YieldsList-from_slice s (cc)) (λ x b q k. search (rules, tests)) in
+    c.unwrap_or.ensures ∙ ap (λ (o : Option ℕ). unwrap_or o (length s)) place

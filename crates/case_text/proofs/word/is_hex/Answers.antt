@@ -1,35 +1,19 @@
-use mathlib.Core.Path.{sym, ◌∙◌}
-use native.Mathlib.Omega.{arith}
-use Rattle.case_text.proofs.Numbers.{hex-end, hex-one, hex-bad, hex-bad-low, hex-on}
+use Rattle.std.proofs.Common.{rules}
+use Rattle.std.specs.Char.{is_ascii_hexdigit}
+use Rattle.std.proofs.lemmas.Iterator.{YieldsList-from_slice}
+use Rattle.std.proofs.lemmas.Iterator.Search.{all_from_yields_List}
+use borrow.Author.Tests.{tests}
+use Rattle.qspi.proofs.Tests as own
+use Rattle.case_text.specs.Number.{is_hex_of}
 use Rattle.case_text.proofs.word.is_hex.Goals as goal
 
-pub returns-then-s-i-lt2 : goal.returns-then-s-i-lt2
-returns-then-s-i-lt2 c =
-    let l = c.loop-i in
-    sym (hex-one c.args.s.now l.i c.loop-i-test.true c.if-s-i-lt2.true) ∙ l.invariant
+pub returns-then-s-eq0 : goal.returns-then-s-eq0
+unfolding is_hex_of
+returns-then-s-eq0 c =
+    let even = c.if-s-eq0.true in
+    simp own.tests
+    (all_from_yields_List is_ascii_hexdigit _ _ _ c.all.ensures.ran (YieldsList-from_slice c.args.s.now cc) (λ x b q k. search (rules, tests)))
 
-pub returns-then-digit-ge-NO_DIGIT : goal.returns-then-digit-ge-NO_DIGIT
-returns-then-digit-ge-NO_DIGIT c =
-    let l = c.loop-i in
-    let s = c.args.s.now in
-    sym (hex-bad s l.i (omega arith) (omega (arith, c.digit.ensures.value))) ∙ l.invariant
-
-pub returns-then-digit-ge-NO_DIGIT-2 : goal.returns-then-digit-ge-NO_DIGIT-2
-returns-then-digit-ge-NO_DIGIT-2 c =
-    let l = c.loop-i in
-    let s = c.args.s.now in
-    let high = c.digit.ensures.value in
-    let low = c.digit-in-loop-i.ensures.value in
-    sym (hex-bad-low s l.i (omega arith) (omega arith) (omega arith)) ∙ l.invariant
-
-pub loop-i-preserved : goal.loop-i-preserved
-loop-i-preserved c =
-    let l = c.loop-i in
-    let s = c.args.s.now in
-    let high = c.digit.ensures.value in
-    let low = c.digit-in-loop-i.ensures.value in
-    sym (hex-on s l.i (omega arith) (omega arith) (omega arith)) ∙ l.invariant
-
-pub returns : goal.returns
-returns c =
-    let l = c.loop-i in sym (hex-end c.args.s.now l.i c.loop-i-test.false) ∙ l.invariant
+pub returns-else-s-eq0 : goal.returns-else-s-eq0
+unfolding is_hex_of
+returns-else-s-eq0 c = let odd = c.if-s-eq0.false in simp own.tests

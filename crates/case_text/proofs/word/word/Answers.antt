@@ -1,36 +1,23 @@
-use Prim.Native.Nat.{suc, ◌+◌, ◌-◌}
-use mathlib.Core.Path.{◌≡◌, sym, ◌∙◌}
-use native.Mathlib.Omega.{arith}
-use lib.ListN.{length, take, drop, length-drop}
-use lib.Seq.{take_all}
-use Rattle.case_text.specs.Word.{before_of}
-use Rattle.case_text.proofs.Words.{word_first, word_next, word-past}
+use Rattle.std.proofs.Common.{◌≡◌, refl, ap, ◌∙◌, ℕ, List, [], eqb, rules, Bor, Option, Some, None}
+use Rattle.std.specs.Option.{unwrap_or, option_map}
+use Rattle.std.proofs.lemmas.Iterator.Consumers.{nth_from_yields_List}
+use Rattle.std.proofs.lemmas.Iterator.Splits.{YieldsList-from_slice_split}
+use Rattle.std.proofs.lemmas.Option.{unwrap_or-slice_get}
+use borrow.Author.Tests.{tests}
+use Rattle.case_text.specs.Word.{word_of, words_in}
 use Rattle.case_text.proofs.word.word.Goals as goal
 
-pub returns-then-left-n : goal.returns-then-left-n
-returns-then-left-n c =
-    let l = c.loop-i in
-    let k = c.args.k in
-    let e = c.before-n.ensures.value in
-    sym (word-past l.left.now (k - l.i) (omega arith) (omega arith)) ∙ l.invariant.0
-
-pub loop-i-preserved : goal.loop-i-preserved
-loop-i-preserved c =
-    let l = c.loop-i in
-    let k = c.args.k in
-    let left = l.left.now in
-    let n = c.before-n.result in
-    let rest = drop (n + 1) left in
-    let e : take (length left - (n + 1)) rest ≡ rest = take_all (length left - (n + 1)) rest (simp length-drop (omega arith)) in
-    let d : n + 1 ≡ suc (before_of 32 left) = omega (arith, c.before-n.ensures.value) in
-    let f : k - (l.i + 1) ≡ k - l.i - 1 = omega arith in (
-      rw (e, d, f) (sym (word_next left (k - l.i) (omega arith)) ∙ l.invariant.0),
-      omega arith,
-      rw e (simp length-drop (omega arith)),
-    )
+behind_or : (o : Option (Bor (List ℕ))) (d : Bor (List ℕ)) → (unwrap_or o d).now ≡ unwrap_or (option_map (λ x. x.now) o) d.now
+behind_or None d = refl
+behind_or (Some x) d = refl
 
 pub returns : goal.returns
+unfolding word_of words_in
 returns c =
-    let l = c.loop-i in
-    let k = c.args.k in
-    rw c.before-n-2.ensures.value (sym (word_first l.left.now (k - l.i) (omega arith)) ∙ l.invariant.0)
+    let given = nth_from_yields_List c.nth.result _ c.args.k c.nth.ensures.ran
+    (YieldsList-from_slice_split _ (λ x. eqb x 32) c.args.line.now c.split.ensures.rest c.split.ensures.done c.split.ensures.closure (λ x b q k. search (rules, tests)))
+    in
+    ap (λ (r : Bor (List ℕ)). r.now) c.unwrap_or.ensures
+    ∙ behind_or c.nth.result _
+    ∙ ap (λ (o : Option (List ℕ)). unwrap_or o []) given
+    ∙ unwrap_or-slice_get _ c.args.k []

@@ -1,12 +1,7 @@
-use Prim.Native.Nat.{◌-◌}
-use mathlib.Core.Path.{◌≡◌}
-use lib.ListN.{length, drop}
-use Rattle.lines.specs.Text.{appended, text_of}
+use Rattle.std.proofs.Common.{take}
+use Rattle.lines.specs.Writing.{Appends}
 use Rattle.trace_words.specs.Print.{solid_of}
 use Rattle.trace_words.proofs.print.solid.Given as goal
 
-abbrev pub invariant-loop-i : goal.invariant-loop-i
-invariant-loop-i l = (appended (solid_of (drop l.i l.s)) (text_of l.out l.behind) ≡ appended (solid_of l.s) (text_of l.initial.out l.at)) × (length l.out ≡ length l.initial.out)
-
-abbrev pub decreases-loop-i : goal.decreases-loop-i
-decreases-loop-i l = length l.s - l.i
+abbrev pub invariant-loop-b : goal.invariant-loop-b
+invariant-loop-b l = Appends (solid_of (take l.b-index l.s)) l.initial.out l.out

@@ -1,11 +1,7 @@
-use Prim.Native.Nat.{◌-◌, ◌≤◌}
-use mathlib.Core.Path.{◌≡◌}
-use Rattle.spi_nor.specs.Config.{from_jedec}
-use Rattle.spi_nor.proofs.Known.{rest}
+use Rattle.std.proofs.Common.{◌≡◌, drop}
+use Rattle.spi_nor.specs.Config.{known_nor_devices, look_up, unknown_device, capacity_bytes_of, from_jedec}
 use Rattle.spi_nor.proofs.config.NorDeviceInfo.from_jedec.Given as goal
 
-abbrev pub invariant-loop-idx : goal.invariant-loop-idx
-invariant-loop-idx l = (l.idx ≤ 3) × (rest l.id l.idx ≡ from_jedec l.id)
-
-abbrev pub decreases-loop-idx : goal.decreases-loop-idx
-decreases-loop-idx l = 3 - l.idx
+-- the rows that are left tell the same device
+abbrev pub invariant-loop-known : goal.invariant-loop-known
+invariant-loop-known l = look_up l.id (drop l.known-index known_nor_devices) (unknown_device (capacity_bytes_of l.id)) ≡ from_jedec l.id

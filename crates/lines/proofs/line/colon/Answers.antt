@@ -1,6 +1,0 @@
-use Rattle.lines.specs.Text.{appended}
-use Rattle.lines.proofs.line.colon.Goals as goal
-
-pub returns : goal.returns
-unfolding appended
-returns c = simp (c.put.ensures, c.put-behind.ensures)

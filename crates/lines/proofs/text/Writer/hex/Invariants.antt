@@ -1,0 +1,7 @@
+use Rattle.std.proofs.Common.{take}
+use Rattle.lines.specs.Text.{hex_of}
+use Rattle.lines.specs.Writing.{Appends}
+use Rattle.lines.proofs.text.Writer.hex.Given as goal
+
+abbrev pub invariant-loop-b : goal.invariant-loop-b
+invariant-loop-b l = Appends (hex_of (take l.b-index l.s)) l.initial.self l.self

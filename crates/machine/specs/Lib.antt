@@ -1,0 +1,3 @@
+pub mod Then
+pub mod Shape
+pub mod Number

@@ -1,0 +1,126 @@
+// How a call begins, and how it is turned away.
+ghost use Rattle.std.specs.Prelude.{◌≡◌, length};
+ghost use Rattle.spi_flash.specs.Beginning.{constructed, told, freed, opened, begun, at_rest, begins};
+ghost use Rattle.machine.specs.Shape.{then_as, opening_as, shape};
+
+use crate::part::{FlashOf, OpeningOf, Part, SteppedOf, ThenOf};
+use crate::state::{Flash, Given, Stepped};
+use crate::then::Opening;
+use qspi::transfer::Transfer;
+use spi_flash::entry;
+use spi_flash::error::FlashError;
+use spi_flash::loan::Takes;
+
+// Select is raised, with which a construction begins.
+#[tactic(auto, unfolding(spi_flash::specs::Beginning::constructed, spi_flash::specs::Settling::settled))]
+fn construct<D: Part>(flash: FlashOf<D>, setup: D::Setup, scratch_len: usize) -> SteppedOf<D>
+    ensures { result ≡ constructed shape D.calls flash setup scratch_len }
+{
+    match entry::may_begin(true, scratch_len, D::in_bounds(setup)) {
+        Ok(()) => Flash::resting(setup, false, 0).start(
+            Takes::Nothing,
+            setup,
+            Transfer::Raise,
+            D::raised(),
+        ),
+        Err(error) => flash.refused(error),
+    }
+}
+
+// What the driver holds.
+#[tactic(auto, unfolding(spi_flash::specs::Beginning::told))]
+fn told<S: Copy, P: Copy, A: Copy>(flash: Flash<S, P>, answer: A) -> Stepped<S, P, A>
+    ensures { result ≡ told shape flash answer }
+{
+    if !flash.built {
+        return flash.refused(FlashError::OutOfTurn);
+    }
+    Stepped {
+        flash,
+        given: Given::Ended(answer),
+    }
+}
+
+// The Rust gives its bus back, and nothing can be called on what it was.
+#[tactic(auto, unfolding(spi_flash::specs::Beginning::freed))]
+fn freed<D: Part>(flash: FlashOf<D>) -> SteppedOf<D>
+    ensures { result ≡ freed shape D.calls flash }
+{
+    if !flash.built {
+        return flash.refused(FlashError::OutOfTurn);
+    }
+    Stepped {
+        flash: Flash::resting(flash.setup, false, flash.delivered),
+        given: Given::Ended(D::done()),
+    }
+}
+
+// What is turned away before its first action has not begun.
+#[tactic(auto, unfolding(spi_flash::specs::Beginning::opened))]
+fn opened<D: Part>(flash: FlashOf<D>, takes: Takes, then: ThenOf<D>) -> SteppedOf<D>
+    ensures { result ≡ opened shape flash takes (then_as «then») }
+{
+    match then {
+        Ok(_) => Flash::resting(flash.setup, flash.built, 0).settle(takes, then),
+        Err(error) => flash.refused(error),
+    }
+}
+
+// The Rust's own refusals come last.
+#[tactic(auto, unfolding(spi_flash::specs::Beginning::begun))]
+fn begun<D: Part>(
+    flash: FlashOf<D>,
+    scratch_len: usize,
+    takes: Takes,
+    then: ThenOf<D>,
+) -> SteppedOf<D>
+    ensures { result ≡ begun shape D.calls flash scratch_len takes (then_as «then») }
+{
+    match entry::may_begin(flash.built, scratch_len, D::in_bounds(flash.setup)) {
+        Ok(()) => opened::<D>(flash, takes, then),
+        Err(error) => flash.refused(error),
+    }
+}
+
+#[tactic(auto, unfolding(spi_flash::specs::Beginning::at_rest))]
+fn idle<D: Part>(flash: FlashOf<D>, opening: OpeningOf<D>, scratch_len: usize) -> SteppedOf<D>
+    ensures { result ≡ at_rest shape D.calls flash (opening_as opening) scratch_len }
+{
+    match opening {
+        Opening::Constructs(setup) => construct::<D>(flash, setup, scratch_len),
+        Opening::Tells(answer) => told(flash, answer),
+        Opening::Releases => freed::<D>(flash),
+        Opening::Uses { takes, then } => begun::<D>(flash, scratch_len, takes, then),
+    }
+}
+
+// Begins a call, by the lengths of what is lent.
+#[tactic(auto, unfolding(spi_flash::specs::Beginning::begins))]
+pub fn begin_lent<D: Part>(
+    flash: FlashOf<D>,
+    call: D::Call,
+    scratch_len: usize,
+    buffer_len: usize,
+    data_len: usize,
+) -> SteppedOf<D>
+    ensures { result ≡ begins shape D.calls flash call scratch_len buffer_len data_len }
+{
+    if flash.running.is_some() {
+        return flash.refused(FlashError::OutOfTurn);
+    }
+    let opening = D::opening(flash.setup, call, buffer_len, data_len);
+    idle::<D>(flash, opening, scratch_len)
+}
+
+// Begins a call. Nothing lent changes: a command is put into the scratch only in a later step.
+pub fn begin<D: Part>(
+    flash: FlashOf<D>,
+    call: D::Call,
+    scratch: &[u8],
+    buffer: &[u8],
+    data: &[u8],
+) -> SteppedOf<D>
+    ensures { result ≡ begins shape D.calls flash call (length scratch.now) (length buffer.now) (length «data».now) }
+{
+    begin_lent::<D>(flash, call, scratch.len(), buffer.len(), data.len())
+}

@@ -1,0 +1,53 @@
+// What is a part's own.
+ghost use Rattle.std.specs.Prelude.{◌≡◌};
+ghost use Rattle.frames.specs.Frame.{Outcome};
+ghost use Rattle.spi_flash.specs.Beginning.{Calls};
+ghost use Rattle.spi_flash.specs.Shape.{Then};
+ghost use Rattle.machine.specs.Shape.{then_as, opening_as};
+
+use crate::state::{Flash, Stepped};
+use crate::then::{Opening, Then};
+use frames::frame::Outcome;
+
+pub trait Part {
+    type Setup: Copy;
+
+    type Phase: Copy;
+
+    type Answer: Copy;
+
+    type Call: Copy;
+
+    ghost calls: { Calls Self.Setup Self.Phase Self.Answer Self.Call };
+
+    ghost next: { Self.Setup → Self.Phase → Outcome → Then Self.Setup Self.Phase Self.Answer };
+
+    fn opening(
+        setup: Self::Setup,
+        call: Self::Call,
+        buffer_len: usize,
+        data_len: usize,
+    ) -> OpeningOf<Self>
+        ensures { opening_as result ≡ calls.opening setup call buffer_len data_len };
+
+    fn raised() -> Self::Phase
+        ensures { result ≡ calls.raised };
+
+    fn done() -> Self::Answer
+        ensures { result ≡ calls.done };
+
+    fn in_bounds(setup: Self::Setup) -> bool
+        ensures { result ≡ calls.in_bounds setup };
+
+    fn next(setup: Self::Setup, phase: Self::Phase, outcome: Outcome) -> ThenOf<Self>
+        ensures { then_as result ≡ next setup phase outcome };
+}
+
+// The machine's types at a part.
+pub type FlashOf<D> = Flash<<D as Part>::Setup, <D as Part>::Phase>;
+
+pub type SteppedOf<D> = Stepped<<D as Part>::Setup, <D as Part>::Phase, <D as Part>::Answer>;
+
+pub type ThenOf<D> = Then<<D as Part>::Setup, <D as Part>::Phase, <D as Part>::Answer>;
+
+pub type OpeningOf<D> = Opening<<D as Part>::Setup, <D as Part>::Phase, <D as Part>::Answer>;

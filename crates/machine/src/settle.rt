@@ -1,0 +1,105 @@
+// A driver's state put together, and what a step comes to: the next transfer's first action, the call's end, or a refusal.
+ghost use Rattle.std.specs.Prelude.{◌≡◌};
+ghost use Rattle.spi_flash.specs.Settling.{started, settled};
+ghost use Rattle.machine.specs.Shape.{then_as, shape, flash_of, busy_of, started_of, refused_of};
+
+use crate::state::{Flash, Given, Job, Stepped};
+use crate::then::{Next, Then};
+use frames::frame;
+use frames::frame::Frame;
+use qspi::bus::Action;
+use qspi::transfer::Transfer;
+use spi_flash::error::FlashError;
+use spi_flash::loan::Takes;
+
+impl<S: Copy, P: Copy> Flash<S, P> {
+    pub fn new(setup: S, built: bool, delivered: usize, running: Option<Job<P>>) -> Flash<S, P>
+        ensures { result ≡ flash_of setup built delivered running }
+    {
+        Flash {
+            setup,
+            built,
+            delivered,
+            running,
+        }
+    }
+
+    // The driver at rest.
+    pub fn resting(setup: S, built: bool, delivered: usize) -> Flash<S, P>
+        ensures { result ≡ flash_of setup built delivered None }
+    {
+        Flash::new(setup, built, delivered, None)
+    }
+
+    // The driver with a transfer out.
+    pub fn busy(
+        setup: S,
+        built: bool,
+        delivered: usize,
+        phase: P,
+        frame: Frame,
+        takes: Takes,
+    ) -> Flash<S, P>
+        ensures { result ≡ busy_of setup built delivered phase frame takes }
+    {
+        let job = Job {
+            phase,
+            frame,
+            takes,
+        };
+        Flash::new(setup, built, delivered, Some(job))
+    }
+
+    // The state unchanged, and why.
+    pub fn refused<A>(self, error: FlashError) -> Stepped<S, P, A>
+        ensures { result ≡ refused_of self error }
+    {
+        Stepped {
+            flash: self,
+            given: Given::Refused(error),
+        }
+    }
+
+    pub fn acting<A>(self, action: Action) -> Stepped<S, P, A>
+        ensures { result ≡ started_of self action }
+    {
+        Stepped {
+            flash: self,
+            given: Given::Act(action),
+        }
+    }
+
+    // Gives out the first action of a transfer.
+    pub fn start<A>(self, takes: Takes, setup: S, transfer: Transfer, phase: P) -> Stepped<S, P, A>
+        ensures { result ≡ started shape self takes setup transfer phase }
+    {
+        let first = frame::first(transfer);
+        Flash::busy(setup, self.built, self.delivered, phase, first, takes).acting(frame::pending(
+            first,
+        ))
+    }
+
+    // Goes on with the next transfer, or ends the call. A call that has succeeded leaves the driver built.
+    #[tactic(auto, unfolding(spi_flash::specs::Settling::settled))]
+    pub fn settle<A>(self, takes: Takes, then: Then<S, P, A>) -> Stepped<S, P, A>
+        ensures { result ≡ settled shape self takes (then_as «then») }
+    {
+        match then {
+            Ok(
+                Next::Go {
+                    setup,
+                    transfer,
+                    phase,
+                },
+            ) => self.start(takes, setup, transfer, phase),
+            Ok(Next::End { setup, answer }) => Stepped {
+                flash: Flash::resting(setup, true, self.delivered),
+                given: Given::Ended(answer),
+            },
+            Err(error) => Stepped {
+                flash: Flash::resting(self.setup, self.built, self.delivered),
+                given: Given::Failed(error),
+            },
+        }
+    }
+}

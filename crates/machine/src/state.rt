@@ -1,0 +1,40 @@
+// A driver's state and what a step gives, over its setup S, its phases P and its answers A.
+use frames::frame::Frame;
+use qspi::bus::Action;
+use spi_flash::error::FlashError;
+use spi_flash::loan::Takes;
+
+// A call under way.
+#[derive(Clone, Copy)]
+pub struct Job<P> {
+    pub phase: P,
+    pub frame: Frame,
+    pub takes: Takes,
+}
+
+#[derive(Clone, Copy)]
+pub struct Flash<S, P> {
+    pub setup: S,
+    // The last construction begun has succeeded.
+    pub built: bool,
+    // Bytes that the last call begun has put into the caller's buffer.
+    pub delivered: usize,
+    pub running: Option<Job<P>>,
+}
+
+#[derive(Clone, Copy)]
+pub enum Given<A> {
+    Act(Action),
+    // The call has succeeded.
+    Ended(A),
+    // A call that had begun has failed.
+    Failed(FlashError),
+    // Turned away: nothing has changed.
+    Refused(FlashError),
+}
+
+#[derive(Clone, Copy)]
+pub struct Stepped<S, P, A> {
+    pub flash: Flash<S, P>,
+    pub given: Given<A>,
+}

@@ -1,0 +1,77 @@
+// One reply to the action that is out.
+ghost use Rattle.std.specs.Prelude.{◌≡◌, take};
+ghost use Rattle.spi_flash.specs.Replying.{exchanged, stepped_to, steps};
+ghost use Rattle.machine.specs.Shape.{job_as, shape};
+
+use crate::part::{FlashOf, Part, SteppedOf};
+use crate::state::{Flash, Job};
+use frames::exchange;
+use frames::frame::Exchanged;
+use qspi::bus::Reply;
+use spi_flash::error::FlashError;
+use spi_flash::loan;
+
+// What does not fit is refused; what fits brings the transfer that is out on, or ends it.
+fn exchanged<D: Part>(
+    flash: FlashOf<D>,
+    job: Job<D::Phase>,
+    delivered: usize,
+    heard: Exchanged,
+) -> SteppedOf<D>
+    ensures { result ≡ exchanged shape D.next flash (job_as job) delivered heard }
+{
+    match heard {
+        Exchanged::Misfit => flash.refused(FlashError::Misfit),
+        Exchanged::Gave { frame, action } => {
+            Flash::busy(
+                flash.setup,
+                flash.built,
+                delivered,
+                job.phase,
+                frame,
+                job.takes,
+            )
+            .acting(action)
+        }
+        Exchanged::Over(outcome) => flash.settle(
+            job.takes,
+            D::next(flash.setup, job.phase, outcome),
+        ),
+    }
+}
+
+// Takes the reply to the action that is out, and gives the next action or the call's end.
+#[tactic(auto, unfolding(spi_flash::specs::Replying::steps))]
+pub fn step<D: Part>(
+    flash: FlashOf<D>,
+    reply: Reply,
+    bytes: &[u8],
+    scratch: &mut [u8],
+    buffer: &mut [u8],
+    data: &[u8],
+) -> SteppedOf<D>
+    ensures { stepped_to result scratch.new buffer.new ≡ steps shape D.next flash reply bytes.now scratch.old buffer.old «data».now }
+{
+    let running = flash.running;
+    let Some(job) = running else {
+        return flash.refused(FlashError::OutOfTurn);
+    };
+    let delivered = exchange::delivered_by(
+        job.frame,
+        reply,
+        bytes.len(),
+        buffer.len(),
+        flash.delivered,
+    );
+    let heard = loan::exchange(job.takes, job.frame, reply, bytes, scratch, buffer, data);
+    exchanged::<D>(flash, job, delivered, heard)
+}
+
+impl<S: Copy, P: Copy> Flash<S, P> {
+    // The delivered beginning of the caller's buffer, as that part of it: the bytes that the last call begun has read.
+    pub fn delivered(self, buffer: &[u8]) -> &[u8]
+        ensures { result.now ≡ take self.delivered buffer.now }
+    {
+        qspi::bytes::delivered(buffer, self.delivered)
+    }
+}

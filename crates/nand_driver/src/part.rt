@@ -1,0 +1,63 @@
+// What the NAND has of its own, of which machine makes the driver.
+ghost use Rattle.std.specs.Prelude.{◌≡◌};
+ghost use Rattle.nand_driver.specs.Call.{nand_calls, not_built};
+ghost use Rattle.nand_driver.specs.Step.{nand_next};
+
+use frames::frame::Outcome;
+use machine::part::Part;
+use machine::state;
+use nand_answers::answer::Answer;
+use nand_next::next;
+use nand_opening::opening;
+use nand_phases::call::Call;
+use nand_phases::phase::Phase;
+use nand_phases::setup::Setup;
+use nand_steps::then::{Opening, Then};
+use spi_nand::config::SpiNandConfig;
+
+pub type SpiNandFlash = state::Flash<Setup, Phase>;
+
+pub type Stepped = state::Stepped<Setup, Phase, Answer>;
+
+pub struct Nand;
+
+impl Part for Nand {
+    type Setup = Setup;
+
+    type Phase = Phase;
+
+    type Answer = Answer;
+
+    type Call = Call;
+
+    ghost calls = { nand_calls };
+
+    ghost next = { nand_next };
+
+    fn opening(setup: Setup, call: Call, buffer_len: usize, data_len: usize) -> Opening {
+        opening::opening_of(setup, call, buffer_len, data_len)
+    }
+
+    fn raised() -> Phase {
+        Phase::Raised
+    }
+
+    fn done() -> Answer {
+        Answer::Done
+    }
+
+    fn in_bounds(setup: Setup) -> bool {
+        setup.geometry.in_bounds()
+    }
+
+    fn next(setup: Setup, phase: Phase, outcome: Outcome) -> Then {
+        next::next(setup, phase, outcome)
+    }
+}
+
+// A driver before any construction.
+pub fn not_built() -> SpiNandFlash
+    ensures { result ≡ not_built }
+{
+    state::Flash::resting(opening::fresh(SpiNandConfig::single()), false, 0)
+}

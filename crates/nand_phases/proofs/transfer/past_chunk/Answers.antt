@@ -1,6 +1,0 @@
-use Rattle.std.proofs.Common.{arith, rules}
-use Rattle.nand_phases.proofs.Pieces.{chunk-within}
-use Rattle.nand_phases.proofs.transfer.past_chunk.Goals as goal
-
-pub overflow_add-result : goal.overflow_add-result
-overflow_add-result c = omega (arith, c.chunk-n.ensures, chunk-within c.args.geometry c.args.offset c.args.len c.args.done 18446744073709551616 (search rules) (search rules))

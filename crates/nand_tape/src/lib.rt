@@ -1,4 +1,0 @@
-// Calls of the NAND driver over a reply tape.
-#![tactic(auto)]
-
-pub mod replay;

@@ -1,0 +1,63 @@
+// What the NOR has of its own, of which machine makes the driver.
+ghost use Rattle.std.specs.Prelude.{◌≡◌};
+ghost use Rattle.nor_driver.specs.Call.{nor_calls, not_built};
+ghost use Rattle.nor_driver.specs.Step.{nor_next};
+
+use frames::frame::Outcome;
+use machine::part::Part;
+use machine::state;
+use nor_answers::answer::Answer;
+use nor_next::next;
+use nor_opening::opening;
+use nor_phases::call::Call;
+use nor_phases::phase::Phase;
+use nor_phases::setup::Setup;
+use nor_steps::then::{Opening, Then};
+use spi_nor::config::SpiNorConfig;
+
+pub type SpiNorFlash = state::Flash<Setup, Phase>;
+
+pub type Stepped = state::Stepped<Setup, Phase, Answer>;
+
+pub struct Nor;
+
+impl Part for Nor {
+    type Setup = Setup;
+
+    type Phase = Phase;
+
+    type Answer = Answer;
+
+    type Call = Call;
+
+    ghost calls = { nor_calls };
+
+    ghost next = { nor_next };
+
+    fn opening(setup: Setup, call: Call, buffer_len: usize, data_len: usize) -> Opening {
+        opening::opening_of(setup, call, buffer_len, data_len)
+    }
+
+    fn raised() -> Phase {
+        Phase::Raised
+    }
+
+    fn done() -> Answer {
+        Answer::Done
+    }
+
+    fn in_bounds(setup: Setup) -> bool {
+        setup.device.in_bounds()
+    }
+
+    fn next(setup: Setup, phase: Phase, outcome: Outcome) -> Then {
+        next::next(setup, phase, outcome)
+    }
+}
+
+// A driver before any construction.
+pub fn not_built() -> SpiNorFlash
+    ensures { result ≡ not_built }
+{
+    state::Flash::resting(opening::fresh(SpiNorConfig::single()), false, 0)
+}

@@ -1,0 +1,217 @@
+// The NOR's words: the Rust's names of its calls, what each takes, and its settings.
+ghost use Rattle.std.specs.Prelude.{◌≡◌};
+ghost use Rattle.std.specs.Str.{bytes_eq};
+ghost use Rattle.nor_words.specs.Name.{text_of, named_by, form_of, most_of, call_of};
+ghost use Rattle.nor_words.specs.Setting.{quad_config, device_info, quad_given, own_given};
+
+use case_text::line::{Four, Quad};
+use flash_calls::call;
+use flash_words::words::Words;
+use nor_phases::call::Call;
+use spi_nor::config::{NorDeviceInfo, NorQuadConfig, SpiNorConfig};
+use trace_words::request::Form;
+
+// An offset of the Rust has 32 bits.
+const OFFSET_MOST: u64 = 4294967295;
+
+// `new` is `with_config` at the settings above, and `new_single` is `new`.
+#[derive(Clone, Copy)]
+pub enum Name {
+    New,
+    NewSingle,
+    Config,
+    Device,
+    Id,
+    Free,
+    ReadStatus1,
+    ReadStatus2,
+    IsBusy,
+    JedecId,
+    UniqueId,
+    QuadEnabled,
+    EnableQuad,
+    DisableQuad,
+    Unprotect,
+    Read,
+    Write,
+    Erase,
+    EraseSector,
+    EraseBlock,
+}
+
+const NAMES: [Name; 20] = [
+    Name::New,
+    Name::NewSingle,
+    Name::Config,
+    Name::Device,
+    Name::Id,
+    Name::Free,
+    Name::ReadStatus1,
+    Name::ReadStatus2,
+    Name::IsBusy,
+    Name::JedecId,
+    Name::UniqueId,
+    Name::QuadEnabled,
+    Name::EnableQuad,
+    Name::DisableQuad,
+    Name::Unprotect,
+    Name::Read,
+    Name::Write,
+    Name::Erase,
+    Name::EraseSector,
+    Name::EraseBlock,
+];
+
+impl Name {
+    #[tactic(auto, unfolding(crate::specs::Name::text_of))]
+    fn text(self) -> &'static [u8]
+        ensures { result.now ≡ text_of self }
+    {
+        match self {
+            Name::New => b"new",
+            Name::NewSingle => b"new_single",
+            Name::Config => b"config",
+            Name::Device => b"device",
+            Name::Id => b"id",
+            Name::Free => b"free",
+            Name::ReadStatus1 => b"read_status1",
+            Name::ReadStatus2 => b"read_status2",
+            Name::IsBusy => b"is_busy",
+            Name::JedecId => b"jedec_id",
+            Name::UniqueId => b"unique_id",
+            Name::QuadEnabled => b"quad_enabled",
+            Name::EnableQuad => b"enable_quad",
+            Name::DisableQuad => b"disable_quad",
+            Name::Unprotect => b"unprotect",
+            Name::Read => b"read",
+            Name::Write => b"write",
+            Name::Erase => b"erase",
+            Name::EraseSector => b"erase_sector",
+            Name::EraseBlock => b"erase_block",
+        }
+    }
+
+    fn is_written(self, word: &[u8]) -> bool
+        ensures { result ≡ bytes_eq (text_of self) word.now }
+    {
+        self.text() == word
+    }
+}
+
+// ---- settings
+
+fn quad_config(quad: Quad) -> NorQuadConfig
+    ensures { result ≡ quad_config quad }
+{
+    NorQuadConfig {
+        tclqv_ns: quad.tclqv_ns,
+        read_opcode: quad.read_opcode,
+        page_program_opcode: quad.program_opcode,
+        dummy_margin: quad.margin,
+    }
+}
+
+fn device_info(own: Four) -> NorDeviceInfo
+    ensures { result ≡ device_info own }
+{
+    NorDeviceInfo {
+        capacity: own.first as usize,
+        sector_size: own.second as usize,
+        block_size: own.third as usize,
+        page_size: own.fourth as usize,
+    }
+}
+
+// ---- the words
+
+impl Words for Name {
+    type Config = SpiNorConfig;
+
+    ghost named = { named_by };
+
+    ghost form = { form_of };
+
+    ghost most = { most_of };
+
+    ghost call = { call_of };
+
+    ghost with_quad = { quad_given };
+
+    ghost with_own = { own_given };
+
+    #[tactic(auto, unfolding(crate::specs::Name::named_by))]
+    fn named(word: &[u8]) -> Option<Name> {
+        NAMES.iter().copied().find(|name| name.is_written(word))
+    }
+
+    fn form(self) -> Form {
+        match self {
+            Name::New
+            | Name::NewSingle
+            | Name::Config
+            | Name::Device
+            | Name::Id
+            | Name::Free
+            | Name::ReadStatus1
+            | Name::ReadStatus2
+            | Name::IsBusy
+            | Name::JedecId
+            | Name::UniqueId
+            | Name::QuadEnabled
+            | Name::EnableQuad
+            | Name::DisableQuad
+            | Name::Unprotect => Form::Plain,
+            Name::Read => Form::Buffer,
+            Name::Write => Form::Data,
+            Name::Erase => Form::Two,
+            Name::EraseSector | Name::EraseBlock => Form::One,
+        }
+    }
+
+    fn most(self) -> u64 {
+        OFFSET_MOST
+    }
+
+    fn call(self, config: SpiNorConfig, first: u64, second: u64) -> call::Call {
+        let offset = first as u32;
+        call::Call::Nor(match self {
+            Name::New => Call::WithConfig(config),
+            Name::NewSingle => Call::New,
+            Name::Config => Call::Config,
+            Name::Device => Call::Device,
+            Name::Id => Call::Id,
+            Name::Free => Call::Free,
+            Name::ReadStatus1 => Call::ReadStatus1,
+            Name::ReadStatus2 => Call::ReadStatus2,
+            Name::IsBusy => Call::IsBusy,
+            Name::JedecId => Call::JedecId,
+            Name::UniqueId => Call::UniqueId,
+            Name::QuadEnabled => Call::QuadEnabled,
+            Name::EnableQuad => Call::EnableQuad,
+            Name::DisableQuad => Call::DisableQuad,
+            Name::Unprotect => Call::Unprotect,
+            Name::Read => Call::Read { offset },
+            Name::Write => Call::Write { offset },
+            Name::Erase => Call::Erase {
+                from: offset,
+                to: second as u32,
+            },
+            Name::EraseSector => Call::EraseSector { offset },
+            Name::EraseBlock => Call::EraseBlock { offset },
+        })
+    }
+
+    fn with_quad(config: SpiNorConfig, quad: Option<Quad>) -> SpiNorConfig {
+        SpiNorConfig {
+            quad: quad.map(quad_config),
+            ..config
+        }
+    }
+
+    fn with_own(config: SpiNorConfig, own: Option<Four>) -> SpiNorConfig {
+        SpiNorConfig {
+            device: own.map(device_info),
+            ..config
+        }
+    }
+}

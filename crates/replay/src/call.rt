@@ -1,0 +1,115 @@
+// A call over a tape, step by step.
+ghost use Rattle.std.specs.Prelude.{◌≡◌, length};
+ghost use Rattle.tape.specs.Replaying.{begun_over, plain_over, record_over, advanced_over, played_to};
+ghost use Rattle.replay.specs.Replay.{replay_at, taped};
+
+use machine::part::{FlashOf, Part};
+use machine::state::{Given, Stepped};
+use machine::{call as calls, step};
+use qspi::bus;
+use qspi::bus::Reply;
+use spi_flash::error::FlashError;
+use tape::judge;
+use tape::reader::Reader;
+
+// The driver with what it gave last, and the position of the reader's next record.
+#[derive(Clone, Copy)]
+pub struct Replay<S, P, A> {
+    pub stepped: Stepped<S, P, A>,
+    pub at: usize,
+}
+
+impl<S, P, A> Replay<S, P, A> {
+    pub fn new(stepped: Stepped<S, P, A>, at: usize) -> Replay<S, P, A>
+        ensures { result ≡ replay_at stepped at }
+    {
+        Replay { stepped, at }
+    }
+}
+
+pub type ReplayOf<D> = Replay<<D as Part>::Setup, <D as Part>::Phase, <D as Part>::Answer>;
+
+// The whole tape is judged before the call is looked at.
+#[tactic(auto, unfolding(tape::specs::Replaying::begun_over))]
+pub fn begin<D: Part>(
+    flash: FlashOf<D>,
+    call: D::Call,
+    tape: &[u8],
+    scratch: &[u8],
+    buffer: &[u8],
+    data: &[u8],
+) -> ReplayOf<D>
+    ensures { result ≡ begun_over (taped D.calls D.next) flash call tape.now (length scratch.now) (length buffer.now) (length «data».now) }
+{
+    if let Some(at) = judge::first(tape) {
+        return Replay::new(calls::begin::<D>(flash, call, scratch, buffer, data), at);
+    }
+    Replay::new(flash.refused(FlashError::MalformedTape), 0)
+}
+
+// The reply that is no record: select and delay.
+#[tactic(auto, unfolding(tape::specs::Replaying::plain_over))]
+fn plain<D: Part>(
+    flash: FlashOf<D>,
+    at: usize,
+    scratch: &mut [u8],
+    buffer: &mut [u8],
+    data: &[u8],
+) -> ReplayOf<D>
+    ensures { played_to result scratch.new buffer.new ≡ plain_over (taped D.calls D.next) flash at scratch.old buffer.old «data».now }
+{
+    Replay::new(
+        step::step::<D>(flash, Reply::Done, &[], scratch, buffer, data),
+        at,
+    )
+}
+
+// The reply in the reader's next record. Where there is none, the call stays unfinished.
+#[tactic(auto, unfolding(tape::specs::Replaying::record_over))]
+fn recorded<D: Part>(
+    flash: FlashOf<D>,
+    mut reader: Reader,
+    scratch: &mut [u8],
+    buffer: &mut [u8],
+    data: &[u8],
+) -> ReplayOf<D>
+    ensures { played_to result scratch.new buffer.new ≡ record_over (taped D.calls D.next) flash reader.entry.at reader.entry.tape.now scratch.old buffer.old «data».now }
+{
+    let Some(record) = reader.next() else {
+        return Replay::new(flash.refused(FlashError::TapeSpent), reader.at);
+    };
+    let bytes = record.data(reader.tape);
+    let stepped = step::step::<D>(flash, record.reply(), bytes, scratch, buffer, data);
+    Replay::new(stepped, reader.at)
+}
+
+// Performs the action that is out. A replay that has come to an end stays as it is.
+#[tactic(auto, unfolding(tape::specs::Replaying::advanced_over, tape::specs::Replaying::advanced_then))]
+pub fn advance<D: Part>(
+    replay: ReplayOf<D>,
+    tape: &[u8],
+    scratch: &mut [u8],
+    buffer: &mut [u8],
+    data: &[u8],
+) -> ReplayOf<D>
+    ensures { played_to result scratch.new buffer.new ≡ advanced_over (taped D.calls D.next) replay tape.now scratch.old buffer.old «data».now }
+{
+    let stepped = replay.stepped;
+    let given = stepped.given;
+    match given {
+        Given::Act(action) => {
+            if bus::on_bus(action) {
+                recorded::<D>(
+                    stepped.flash,
+                    Reader::new(tape, replay.at),
+                    scratch,
+                    buffer,
+                    data,
+                )
+            } else {
+                plain::<D>(stepped.flash, replay.at, scratch, buffer, data)
+            }
+        }
+        Given::Ended(_) | Given::Failed(_) | Given::Refused(_) => replay,
+    }
+}
