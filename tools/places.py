@@ -77,7 +77,8 @@ def twins():
 
 
 def counted_loops():
-    for place, found in items(r"^\s*(?:while|loop)\b[^\n]*"):
+    """Loops that are no `for`, and those over a range of numbers."""
+    for place, found in items(r"^\s*(?:while\b|loop\b|for [a-z]\w* in [^\n]*\.\.)[^\n]*"):
         yield f"{place}: {found[0].strip()}"
 
 
@@ -94,10 +95,11 @@ def travelling():
         "scratch, buffer, data": (r"scratch: &", r"buffer: &", r"data: &"),
         "out, at": (r"out: &mut \[u8\]", r"at: usize"),
         "settings, place": (r"settings: Settings", r"place: Place"),
-        "offset, len, done": (r"offset: u32", r"len: usize", r"done: usize"),
+        "offset, len, done": (r"offset: u(?:32|size)", r"len: usize", r"done: usize"),
         "tape, at": (r"tape: &\[u8\]", r"at: usize"),
-        "flash, job": (r"flash: Spi\w+Flash", r"job: Job"),
-        "setup, built, delivered": (r"setup: Setup", r"built: bool", r"delivered: usize"),
+        "flash, job": (r"flash: (?:Spi\w+Flash|FlashOf|Flash<)", r"job: Job"),
+        "setup, built, delivered": (r"setup: S", r"built: bool", r"delivered: usize"),
+        "scratch, buffer and data lengths": (r"scratch_len: usize", r"buffer_len: usize", r"data_len: usize"),
         "room, reply": (r"room: &", r"reply: &mut"),
     }
     for place, found in items(r"^\s*(?:pub )?(?:extern \"C\" )?fn (\w+)[^(]*\((.*?)\)(?: ->|\s*\n)"):

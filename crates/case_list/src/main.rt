@@ -8,6 +8,7 @@ use qspi::bytes;
 use std::io;
 use trace_case::case;
 
+// The limits of this program; `trace` has its own. Its memory is arrays of fixed size: there is no heap.
 const MARK: u8 = 37;
 // The mark and its line feed.
 const MARK_LEN: usize = 2;

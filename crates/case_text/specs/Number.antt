@@ -28,11 +28,11 @@ unfoldable pub is_hex_of : List ℕ → Bool
 is_hex_of s = pick (eqb (length s % 2) 0) (list_all is_ascii_hexdigit s) false
 
 -- "hexadecimal digits in either case"; what is none counts as 0
-unfoldable pub digit_of : ℕ → ℕ
-digit_of c = pick (ltb (digit_value c) 16) (digit_value c) 0
+unfoldable pub digit_or_zero : ℕ → ℕ
+digit_or_zero c = pick (ltb (digit_value c) 16) (digit_value c) 0
 
 unfoldable pub byte_of : ℕ → ℕ → ℕ
-byte_of high low = digit_of high * 16 + digit_of low
+byte_of high low = digit_or_zero high * 16 + digit_or_zero low
 
 -- the bytes that digits write
 unfoldable pub bytes_of : List ℕ → List ℕ

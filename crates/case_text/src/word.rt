@@ -2,7 +2,7 @@
 ghost use Rattle.std.specs.Prelude.{◌≤◌, ◌<◌, ◌/◌, ◌≡◌, length, drop};
 ghost use Rattle.qspi.specs.Bytes.{delivered_of};
 ghost use Rattle.case_text.specs.Word.{before_of, word_of, words_of, last_of};
-ghost use Rattle.case_text.specs.Number.{number_in, number_of, is_hex_of, digit_of, byte_of, bytes_of, pairs_over};
+ghost use Rattle.case_text.specs.Number.{number_in, number_of, is_hex_of, digit_or_zero, byte_of, bytes_of, pairs_over};
 
 // Words are parted by single blanks.
 const BLANK: u8 = b' ';
@@ -90,9 +90,10 @@ pub fn is_hex(s: &[u8]) -> bool
     s.len() % 2 == 0 && s.iter().all(|c| c.is_ascii_hexdigit())
 }
 
-#[tactic(auto, unfolding(crate::specs::Number::digit_of))]
+// `to_digit` of std, where `is_hex` has been asked before.
+#[tactic(auto, unfolding(crate::specs::Number::digit_or_zero))]
 fn digit(c: u8) -> u8
-    ensures value { result ≡ digit_of c }
+    ensures value { result ≡ digit_or_zero c }
     ensures upper_bound { result < 16 }
 {
     match char::from(c).to_digit(HEXADECIMAL) {
@@ -113,6 +114,7 @@ fn write_pairs(s: &[u8], room: &mut [u8])
     requires { length s.now / 2 ≤ length room.old }
     ensures { room.new ≡ pairs_over s.now room.old }
 {
+    // Pairs by chunks_exact beside the places of the room would take both digits by index too.
     for i in 0..s.len() / 2 {
         room[i] = byte(s[2 * i], s[2 * i + 1]);
     }

@@ -12,7 +12,7 @@ use spi_flash::error::FlashError;
 use trace_turns::place::{Mode, Place};
 use trace_words::heard::Heard;
 
-// Where a line is taken, the next one begins at next.
+// Where a line is taken, the next one begins at next. Not a Result: a call that stops and one that waits are no failures of this turn.
 #[derive(Clone, Copy)]
 pub enum Hears {
     // A reply to the action that is out; its bytes are the first n of the reply's memory.
@@ -42,7 +42,7 @@ fn data_reply(line: &[u8], next: usize, reply: &mut [u8]) -> Hears
     }
 }
 
-// The reply in the next line.
+// The reply in the next line. `awaited` takes the same and what was given beside: a struct of them would be made and taken apart once.
 #[tactic(auto, unfolding(crate::specs::Hears::replied_of))]
 fn replied(
     place: Place,

@@ -1,4 +1,4 @@
-// The NAND's ids, geometries and waits.
+// The NAND's ids, geometries and waits. Each part prints its own types, and what both print is in `line`.
 use crate::line;
 use spi_nand::config::{NandGeometry, NandJedecId};
 use spi_nand::opcode;

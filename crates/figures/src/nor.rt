@@ -1,4 +1,4 @@
-// The NOR's ids, capacity codes, geometries and waits.
+// The NOR's ids, capacity codes, geometries and waits. Each part prints its own types, and what both print is in `line`.
 use crate::line;
 use spi_nor::config::{NorDeviceInfo, NorJedecId};
 use spi_nor::opcode;

@@ -1,10 +1,12 @@
 // Calls and replies handed to whichever driver it is.
-ghost use Rattle.std.specs.Prelude.{◌≡◌, length};
+ghost use Rattle.std.specs.Prelude.{◌≡◌};
+ghost use Rattle.frames.specs.Loan.{SameLoan, lending, returning};
 ghost use Rattle.flash.specs.Drive.{not_built, refused_of, fresh_of, count_of, stepped_by, begin_of, stepped_to, step_of};
 
 use crate::side::Side;
 use crate::state::{Flash, Stepped};
 use flash_calls::call::{Call, Kind};
+use frames::loan::{Lengths, Loan};
 use machine::part::SteppedOf;
 use machine::state::Given;
 use machine::{call, step};
@@ -66,17 +68,15 @@ fn stepped<D: Side>(stepped: SteppedOf<D>) -> Stepped
     }
 }
 
-// Begins a call. A call of the other driver is refused.
+// Begins a call, by the lengths of what is lent. A call of the other driver is refused.
 #[tactic(auto, unfolding(crate::specs::Drive::begin_of))]
-pub fn begin(flash: Flash, call: Call, scratch: &[u8], buffer: &[u8], data: &[u8]) -> Stepped
-    ensures { result ≡ begin_of flash call (length scratch.now) (length buffer.now) (length «data».now) }
+pub fn begin(flash: Flash, call: Call, lengths: Lengths) -> Stepped
+    ensures { result ≡ begin_of flash call lengths.scratch lengths.buffer lengths.«data» }
 {
     match (flash, call) {
-        (Flash::Nor(nor), Call::Nor(own)) => {
-            stepped::<Nor>(call::begin::<Nor>(nor, own, scratch, buffer, data))
-        }
+        (Flash::Nor(nor), Call::Nor(own)) => stepped::<Nor>(call::begin::<Nor>(nor, own, lengths)),
         (Flash::Nand(nand), Call::Nand(own)) => {
-            stepped::<Nand>(call::begin::<Nand>(nand, own, scratch, buffer, data))
+            stepped::<Nand>(call::begin::<Nand>(nand, own, lengths))
         }
         _ => refused(flash, FlashError::OutOfTurn),
     }
@@ -84,22 +84,12 @@ pub fn begin(flash: Flash, call: Call, scratch: &[u8], buffer: &[u8], data: &[u8
 
 // Takes the reply to the action that is out, and gives the next action or the call's end.
 #[tactic(auto, unfolding(crate::specs::Drive::step_of))]
-pub fn step(
-    flash: Flash,
-    reply: Reply,
-    bytes: &[u8],
-    scratch: &mut [u8],
-    buffer: &mut [u8],
-    data: &[u8],
-) -> Stepped
-    ensures { stepped_to result scratch.new buffer.new ≡ step_of flash reply bytes.now scratch.old buffer.old «data».now }
+pub fn step(flash: Flash, reply: Reply, bytes: &[u8], lent: &mut Loan) -> Stepped
+    ensures same { SameLoan lent.old lent.new }
+    ensures stepped { returning (stepped_to result) lent.new ≡ lending (step_of flash reply bytes.now) lent.old }
 {
     match flash {
-        Flash::Nor(nor) => {
-            stepped::<Nor>(step::step::<Nor>(nor, reply, bytes, scratch, buffer, data))
-        }
-        Flash::Nand(nand) => {
-            stepped::<Nand>(step::step::<Nand>(nand, reply, bytes, scratch, buffer, data))
-        }
+        Flash::Nor(nor) => stepped::<Nor>(step::step::<Nor>(nor, reply, bytes, lent)),
+        Flash::Nand(nand) => stepped::<Nand>(step::step::<Nand>(nand, reply, bytes, lent)),
     }
 }

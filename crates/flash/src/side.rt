@@ -22,6 +22,7 @@ pub trait Side: Part {
         ensures { result ≡ answer_as answer };
 }
 
+// The two instances differ in what they name.
 impl Side for Nor {
     ghost flash_as = { Flash.Nor };
 

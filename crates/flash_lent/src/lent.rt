@@ -1,12 +1,13 @@
 // A driver's calls and steps, with what a call lends at the beginning of the room.
 ghost use Rattle.std.specs.Prelude.{[], ◌≡◌};
-ghost use Rattle.flash.specs.Drive.{stepped_to};
+ghost use Rattle.flash.specs.Drive.{stepped_to, step_of};
 ghost use Rattle.flash_lent.specs.Lent.{begun_over, none_over, buffer_over, data_over, answered_over, asked_over};
 
 use flash::drive;
 use flash::state::{Flash, Stepped};
 use flash_calls::call::Call;
 use flash_words::asked::Ask;
+use frames::loan::{Lengths, Loan};
 use qspi::bus::Reply;
 use qspi::bytes;
 use spi_flash::error::FlashError;
@@ -18,22 +19,36 @@ use trace_words::loan;
 fn begin<'a>(flash: Flash, call: Call, takes: Takes, scratch: &'a [u8], room: &'a [u8]) -> Stepped
     ensures { stepped_to result scratch.now room.now ≡ begun_over flash call takes scratch.now room.now }
 {
-    drive::begin(
-        flash,
-        call,
-        scratch,
-        loan::buffer(takes, room),
-        loan::data(takes, room),
-    )
+    let lengths = Lengths::new(scratch, loan::buffer(takes, room), loan::data(takes, room));
+    drive::begin(flash, call, lengths)
 }
 
-// ---- a reply to the action that is out
+// ---- a reply to the action that is out: three ways to lend, each with slices of its own
+
+// Makes the loan of three slices: where a struct is given a part of a slice itself, it is not known what comes back into the slice.
+fn step(
+    flash: Flash,
+    reply: Reply,
+    bytes: &[u8],
+    scratch: &mut [u8],
+    buffer: &mut [u8],
+    data: &[u8],
+) -> Stepped
+    ensures { stepped_to result scratch.new buffer.new ≡ step_of flash reply bytes.now scratch.old buffer.old «data».now }
+{
+    let mut lent = Loan {
+        scratch,
+        buffer,
+        data,
+    };
+    drive::step(flash, reply, bytes, &mut lent)
+}
 
 #[tactic(auto, unfolding(crate::specs::Lent::none_over))]
 fn with_none(flash: Flash, reply: Reply, bytes: &[u8], scratch: &mut [u8]) -> Stepped
     ensures { stepped_to result scratch.new [] ≡ none_over flash reply bytes.now scratch.old [] }
 {
-    drive::step(flash, reply, bytes, scratch, &mut [0u8; 0], &[0u8; 0])
+    step(flash, reply, bytes, scratch, &mut [], &[])
 }
 
 // A room that is shorter than the buffer that was lent is a misfit.
@@ -49,7 +64,7 @@ fn with_buffer(
     ensures { stepped_to result scratch.new room.new ≡ buffer_over flash reply bytes.now n scratch.old room.old }
 {
     if n <= room.len() {
-        return drive::step(flash, reply, bytes, scratch, &mut room[..n], &[0u8; 0]);
+        return step(flash, reply, bytes, scratch, &mut room[..n], &[]);
     }
     drive::refused(flash, FlashError::Misfit)
 }
@@ -65,14 +80,8 @@ fn with_data(
 ) -> Stepped
     ensures { stepped_to result scratch.new room.now ≡ data_over flash reply bytes.now n scratch.old room.now }
 {
-    drive::step(
-        flash,
-        reply,
-        bytes,
-        scratch,
-        &mut [0u8; 0],
-        bytes::delivered(room, n),
-    )
+    let data = bytes::delivered(room, n);
+    step(flash, reply, bytes, scratch, &mut [], data)
 }
 
 // Hands a reply to the driver, with what its call takes.

@@ -1,5 +1,7 @@
 -- What a line makes of a driver's settings, and what the line of a call asks for, by the words of the driver.
-use Rattle.std.specs.Prelude.{ℕ, List, Option, Some, None}
+use Rattle.std.specs.Prelude.{ℕ, cond, List, [], ◌∷◌, Option, Some, None}
+use Rattle.std.specs.Borrow.{Bor}
+use Rattle.std.specs.Str.{bytes_eq}
 use Rattle.case_text.specs.Word.{word_of}
 use Rattle.case_text.specs.declared.line.Four.{Four}
 use Rattle.case_text.specs.declared.line.Line.{Line}
@@ -9,6 +11,11 @@ use Rattle.trace_words.specs.declared.request.Form.{Form}
 use Rattle.trace_words.specs.declared.request.Request.{Request}
 use Rattle.flash_calls.specs.declared.call.Call.{Call}
 use Rattle.flash_words.specs.declared.asked.Asked.{Asked}
+
+-- "Calls have the Rust's names": the name that a word is in a table of the names as they are written
+abbrev pub named_in : {N : Type 0} → List (Bor (List ℕ) × N) → List ℕ → Option N
+named_in [] word = None
+named_in (entry ∷ rest) word = cond (bytes_eq entry.0.now word) (Some entry.1) (named_in rest word)
 
 -- "Settings may stand between calls and count for the next new"
 abbrev pub config_by : {C : Type 0} → (C → Option Quad → C) → (C → Option Four → C) → C → Line → C

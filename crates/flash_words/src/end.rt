@@ -19,6 +19,7 @@ fn answer_values(out: &mut Writer, answer: Answer)
         return;
     }
     out.put(print::VALUES);
+    // By number: a driver gives its values one at a time, and there is no memory to list them in.
     for i in 0..n {
         out.field(answer.value(i));
     }

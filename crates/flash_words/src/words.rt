@@ -4,7 +4,7 @@ ghost use Rattle.case_text.specs.declared.line.Four.{Four};
 ghost use Rattle.case_text.specs.declared.line.Quad.{Quad};
 ghost use Rattle.flash_calls.specs.declared.call.Call.{Call};
 ghost use Rattle.trace_words.specs.declared.request.Form.{Form};
-ghost use Rattle.flash_words.specs.Words.{config_by, asked_by};
+ghost use Rattle.flash_words.specs.Words.{named_in, config_by, asked_by};
 
 use crate::asked::Asked;
 use case_text::line::{Four, Line, Quad};
@@ -54,6 +54,18 @@ pub trait Words: Copy {
     // The settings with another device or geometry of the caller's own.
     fn with_own(config: Self::Config, own: Option<Four>) -> Self::Config
         ensures { result ≡ with_own config own };
+}
+
+// The name that is written so, in a table of the names as they are written.
+pub fn named<N: Copy>(names: &[(&[u8], N)], word: &[u8]) -> Option<N>
+    ensures { result ≡ named_in names.now word.now }
+{
+    for (text, name) in names {
+        if *text == word {
+            return Some(*name);
+        }
+    }
+    None
 }
 
 // What a line between two calls makes of the settings.

@@ -1,9 +1,11 @@
 // What a reply does to the transfer that is out: whether it fits, what is read out of it, and which action follows.
 ghost use Rattle.std.specs.Prelude.{◌≡◌};
 ghost use Rattle.frames.specs.Frame.{after_start, body_stage, after_command, next_stage, body_sink, sink_of, value_of, moved_on, advanced_of, taken_in, delivered_by, exchanged_to, exchange_of};
+ghost use Rattle.frames.specs.Loan.{SameLoan, lending, returning};
 
 use crate::frame;
 use crate::frame::{Advanced, Exchanged, Frame, Outcome, Stage};
+use crate::loan::Loan;
 use qspi::bus::{BusError, Reply};
 use qspi::transfer::{Body, Sink, Transfer};
 use qspi::{bus, bytes};
@@ -119,24 +121,18 @@ pub fn take_in(frame: Frame, reply: Reply, s: &[u8], buffer: &mut [u8])
 
 // One reply to the action that is out. One that does not fit changes nothing.
 #[tactic(auto, unfolding(crate::specs::Frame::exchange_of))]
-pub fn exchange(
-    frame: Frame,
-    reply: Reply,
-    s: &[u8],
-    scratch: &mut [u8],
-    buffer: &mut [u8],
-    data: &[u8],
-) -> Exchanged
-    ensures { exchanged_to result scratch.new buffer.new ≡ exchange_of frame reply s.now scratch.old buffer.old «data».now }
+pub fn exchange(frame: Frame, reply: Reply, s: &[u8], lent: &mut Loan) -> Exchanged
+    ensures same { SameLoan lent.old lent.new }
+    ensures exchanged { returning (exchanged_to result) lent.new ≡ lending (exchange_of frame reply s.now) lent.old }
 {
     if !bus::fits(frame::pending(frame), reply, s.len()) {
         return Exchanged::Misfit;
     }
-    take_in(frame, reply, s, buffer);
-    match advance(frame, reply, s, data) {
+    take_in(frame, reply, s, lent.buffer);
+    match advance(frame, reply, s, lent.data) {
         Advanced::More(frame) => Exchanged::Gave {
             frame,
-            action: frame::give(frame, scratch),
+            action: frame::give(frame, lent.scratch),
         },
         Advanced::Over(outcome) => Exchanged::Over(outcome),
     }

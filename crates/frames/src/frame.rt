@@ -34,7 +34,8 @@ pub enum Advanced {
     Over(Outcome),
 }
 
-// What a reply comes to: it does not fit, another action of the transfer is given out, or the transfer is over.
+// What a reply comes to: it does not fit, another action of the transfer is given out, or the transfer is over. Not a Result: two of
+// the three go on, and which error a misfit is the driver says.
 #[derive(Clone, Copy)]
 pub enum Exchanged {
     Misfit,

@@ -84,6 +84,7 @@ impl<'a> Writer<'a> {
     {
         let mut digits = [0u8; DIGITS];
         let mut left = n;
+        // By place, from the last digit on: how many there are shows only at the first.
         for i in (0..DIGITS).rev() {
             digits[i] = b'0' + (left % 10) as u8;
             if left < 10 {

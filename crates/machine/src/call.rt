@@ -1,11 +1,12 @@
 // How a call begins, and how it is turned away.
-ghost use Rattle.std.specs.Prelude.{◌≡◌, length};
+ghost use Rattle.std.specs.Prelude.{◌≡◌};
 ghost use Rattle.spi_flash.specs.Beginning.{constructed, told, freed, opened, begun, at_rest, begins};
 ghost use Rattle.machine.specs.Shape.{then_as, opening_as, shape};
 
 use crate::part::{FlashOf, OpeningOf, Part, SteppedOf, ThenOf};
 use crate::state::{Flash, Given, Stepped};
 use crate::then::Opening;
+use frames::loan::Lengths;
 use qspi::transfer::Transfer;
 use spi_flash::entry;
 use spi_flash::error::FlashError;
@@ -94,33 +95,14 @@ fn idle<D: Part>(flash: FlashOf<D>, opening: OpeningOf<D>, scratch_len: usize) -
     }
 }
 
-// Begins a call, by the lengths of what is lent.
+// Begins a call, by the lengths of what is lent. Nothing lent changes: a command is put into the scratch only in a later step.
 #[tactic(auto, unfolding(spi_flash::specs::Beginning::begins))]
-pub fn begin_lent<D: Part>(
-    flash: FlashOf<D>,
-    call: D::Call,
-    scratch_len: usize,
-    buffer_len: usize,
-    data_len: usize,
-) -> SteppedOf<D>
-    ensures { result ≡ begins shape D.calls flash call scratch_len buffer_len data_len }
+pub fn begin<D: Part>(flash: FlashOf<D>, call: D::Call, lengths: Lengths) -> SteppedOf<D>
+    ensures { result ≡ begins shape D.calls flash call lengths.scratch lengths.buffer lengths.«data» }
 {
     if flash.running.is_some() {
         return flash.refused(FlashError::OutOfTurn);
     }
-    let opening = D::opening(flash.setup, call, buffer_len, data_len);
-    idle::<D>(flash, opening, scratch_len)
-}
-
-// Begins a call. Nothing lent changes: a command is put into the scratch only in a later step.
-pub fn begin<D: Part>(
-    flash: FlashOf<D>,
-    call: D::Call,
-    scratch: &[u8],
-    buffer: &[u8],
-    data: &[u8],
-) -> SteppedOf<D>
-    ensures { result ≡ begins shape D.calls flash call (length scratch.now) (length buffer.now) (length «data».now) }
-{
-    begin_lent::<D>(flash, call, scratch.len(), buffer.len(), data.len())
+    let opening = D::opening(flash.setup, call, lengths);
+    idle::<D>(flash, opening, lengths.scratch)
 }

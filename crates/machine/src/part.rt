@@ -8,6 +8,7 @@ ghost use Rattle.machine.specs.Shape.{then_as, opening_as};
 use crate::state::{Flash, Stepped};
 use crate::then::{Opening, Then};
 use frames::frame::Outcome;
+use frames::loan::Lengths;
 
 pub trait Part {
     type Setup: Copy;
@@ -22,13 +23,8 @@ pub trait Part {
 
     ghost next: { Self.Setup → Self.Phase → Outcome → Then Self.Setup Self.Phase Self.Answer };
 
-    fn opening(
-        setup: Self::Setup,
-        call: Self::Call,
-        buffer_len: usize,
-        data_len: usize,
-    ) -> OpeningOf<Self>
-        ensures { opening_as result ≡ calls.opening setup call buffer_len data_len };
+    fn opening(setup: Self::Setup, call: Self::Call, lengths: Lengths) -> OpeningOf<Self>
+        ensures { opening_as result ≡ calls.opening setup call lengths.buffer lengths.«data» };
 
     fn raised() -> Self::Phase
         ensures { result ≡ calls.raised };

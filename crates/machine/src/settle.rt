@@ -13,6 +13,7 @@ use spi_flash::error::FlashError;
 use spi_flash::loan::Takes;
 
 impl<S: Copy, P: Copy> Flash<S, P> {
+    // Setup, built and delivered stand side by side here alone, where a Flash is made of them.
     pub fn new(setup: S, built: bool, delivered: usize, running: Option<Job<P>>) -> Flash<S, P>
         ensures { result ≡ flash_of setup built delivered running }
     {

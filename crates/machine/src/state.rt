@@ -15,13 +15,14 @@ pub struct Job<P> {
 #[derive(Clone, Copy)]
 pub struct Flash<S, P> {
     pub setup: S,
-    // The last construction begun has succeeded.
+    // The last construction begun has succeeded. No Option of the setup: a construction works on one before it is built.
     pub built: bool,
     // Bytes that the last call begun has put into the caller's buffer.
     pub delivered: usize,
     pub running: Option<Job<P>>,
 }
 
+// Not a Result: an action neither succeeds nor fails, and a refusal is no failure of the call under way.
 #[derive(Clone, Copy)]
 pub enum Given<A> {
     Act(Action),

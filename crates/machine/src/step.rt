@@ -1,5 +1,6 @@
 // One reply to the action that is out.
 ghost use Rattle.std.specs.Prelude.{◌≡◌, take};
+ghost use Rattle.frames.specs.Loan.{SameLoan, lending, returning};
 ghost use Rattle.spi_flash.specs.Replying.{exchanged, stepped_to, steps};
 ghost use Rattle.machine.specs.Shape.{job_as, shape};
 
@@ -7,6 +8,7 @@ use crate::part::{FlashOf, Part, SteppedOf};
 use crate::state::{Flash, Job};
 use frames::exchange;
 use frames::frame::Exchanged;
+use frames::loan::Loan;
 use qspi::bus::Reply;
 use spi_flash::error::FlashError;
 use spi_flash::loan;
@@ -42,15 +44,9 @@ fn exchanged<D: Part>(
 
 // Takes the reply to the action that is out, and gives the next action or the call's end.
 #[tactic(auto, unfolding(spi_flash::specs::Replying::steps))]
-pub fn step<D: Part>(
-    flash: FlashOf<D>,
-    reply: Reply,
-    bytes: &[u8],
-    scratch: &mut [u8],
-    buffer: &mut [u8],
-    data: &[u8],
-) -> SteppedOf<D>
-    ensures { stepped_to result scratch.new buffer.new ≡ steps shape D.next flash reply bytes.now scratch.old buffer.old «data».now }
+pub fn step<D: Part>(flash: FlashOf<D>, reply: Reply, bytes: &[u8], lent: &mut Loan) -> SteppedOf<D>
+    ensures same { SameLoan lent.old lent.new }
+    ensures stepped { returning (stepped_to result) lent.new ≡ lending (steps shape D.next flash reply bytes.now) lent.old }
 {
     let running = flash.running;
     let Some(job) = running else {
@@ -60,10 +56,10 @@ pub fn step<D: Part>(
         job.frame,
         reply,
         bytes.len(),
-        buffer.len(),
+        lent.buffer.len(),
         flash.delivered,
     );
-    let heard = loan::exchange(job.takes, job.frame, reply, bytes, scratch, buffer, data);
+    let heard = loan::exchange(job.takes, job.frame, reply, bytes, lent);
     exchanged::<D>(flash, job, delivered, heard)
 }
 

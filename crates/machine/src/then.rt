@@ -1,4 +1,4 @@
-// What a call is, and what follows each of its transfers.
+// What a call is, and what follows each of its transfers. Enums and no closures: no function may hand a closure out.
 ghost use Rattle.std.specs.Prelude.{◌≡◌};
 ghost use Rattle.machine.specs.Then.{go_to, end_with, plain, filling, sending};
 

@@ -60,6 +60,7 @@ fn quad_numbers(quad: NandQuadConfig) -> [u64; 4]
     ]
 }
 
+// What is alike in the NOR's answers is in `values`: here stands which answer has which numbers.
 impl Answer {
     pub fn value_count(self) -> usize
         ensures { result ≡ length (answer_values self) }

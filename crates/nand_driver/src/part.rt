@@ -1,9 +1,10 @@
-// What the NAND has of its own, of which machine makes the driver.
+// What the NAND has of its own, of which machine makes the driver. An instance of its trait: what is alike is in machine.
 ghost use Rattle.std.specs.Prelude.{◌≡◌};
 ghost use Rattle.nand_driver.specs.Call.{nand_calls, not_built};
 ghost use Rattle.nand_driver.specs.Step.{nand_next};
 
 use frames::frame::Outcome;
+use frames::loan::Lengths;
 use machine::part::Part;
 use machine::state;
 use nand_answers::answer::Answer;
@@ -34,8 +35,8 @@ impl Part for Nand {
 
     ghost next = { nand_next };
 
-    fn opening(setup: Setup, call: Call, buffer_len: usize, data_len: usize) -> Opening {
-        opening::opening_of(setup, call, buffer_len, data_len)
+    fn opening(setup: Setup, call: Call, lengths: Lengths) -> Opening {
+        opening::opening_of(setup, call, lengths)
     }
 
     fn raised() -> Phase {

@@ -5,6 +5,7 @@ ghost use Rattle.nand_pages.specs.Cache.{read_cache_then, load_program_then};
 ghost use Rattle.nand_steps.specs.Go.{ask};
 ghost use Rattle.nand_opening.specs.Opening.{given_geometry, fresh_setup, opening_of};
 
+use frames::loan::Lengths;
 use nand_answers::answer::Answer;
 use nand_pages::{cache, page};
 use nand_phases::call::Call;
@@ -26,7 +27,7 @@ fn given_geometry(config: SpiNandConfig) -> NandGeometry
     config.geometry.unwrap_or(NandGeometry::W25N01GV)
 }
 
-// What the driver holds before the id is known.
+// What the driver holds before the id is known. The NOR's differs in each type and constant.
 pub fn fresh(config: SpiNandConfig) -> Setup
     ensures { result ≡ fresh_setup config }
 {
@@ -64,10 +65,10 @@ fn load_program_data(setup: Setup, column: usize, len: usize) -> Opening
     )
 }
 
-// Each call, with a buffer and data of these lengths.
+// Each call, with what is lent of these lengths.
 #[tactic(auto, unfolding(crate::specs::Opening::opening_of))]
-pub fn opening_of(setup: Setup, call: Call, buffer_len: usize, data_len: usize) -> Opening
-    ensures { result ≡ opening_of setup call buffer_len data_len }
+pub fn opening_of(setup: Setup, call: Call, lengths: Lengths) -> Opening
+    ensures { result ≡ opening_of setup call lengths.buffer lengths.«data» }
 {
     match call {
         Call::New => Opening::Constructs(fresh(SpiNandConfig::single())),
@@ -112,25 +113,25 @@ pub fn opening_of(setup: Setup, call: Call, buffer_len: usize, data_len: usize) 
             )
         }
         Call::PageRead { page } => Opening::plain(page::page_read(setup, page, LoadFor::PageRead)),
-        Call::ReadCache { column } => read_cache(setup, column, buffer_len),
-        Call::LoadProgramData { column } => load_program_data(setup, column, data_len),
+        Call::ReadCache { column } => read_cache(setup, column, lengths.buffer),
+        Call::LoadProgramData { column } => load_program_data(setup, column, lengths.data),
         Call::ProgramExecute { page } => Opening::plain(page::program(
             setup,
             page,
             ProgramFor::Call,
         )),
         Call::ReadPage { page } => {
-            Opening::filling(buffer_len, page::read_page(setup, page, buffer_len))
+            Opening::filling(lengths.buffer, page::read_page(setup, page, lengths.buffer))
         }
         Call::WritePage { page } => {
-            Opening::sending(data_len, page::write_page(setup, page, data_len))
+            Opening::sending(lengths.data, page::write_page(setup, page, lengths.data))
         }
         Call::EraseBlock { block } => {
             Opening::plain(block::erase_block(setup, block, EraseFor::Call))
         }
         Call::Read { offset } => Opening::filling(
-            buffer_len,
-            read::read(setup, offset, buffer_len),
+            lengths.buffer,
+            read::read(setup, offset, lengths.buffer),
         ),
         Call::IsBadBlock { block } => {
             Opening::plain(page::is_bad_block(setup, block, MarkerFor::Call))

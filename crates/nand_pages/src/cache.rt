@@ -25,30 +25,24 @@ pub fn read_cache(setup: Setup, column: usize, len: usize, sink: Sink, phase: Ph
     Err(FlashError::OutOfBounds)
 }
 
+fn whole(setup: Setup, sink: Sink, phase: Phase) -> Then
+    ensures { result ≡ whole_then setup sink phase }
+{
+    read_cache(setup, 0, setup.geometry.page_size, sink, phase)
+}
+
 // read_page's whole page, into the buffer.
 pub fn read_whole(setup: Setup) -> Then
     ensures { result ≡ whole_then setup (Sink.Buffer 0) Phase.ReadingCache }
 {
-    read_cache(
-        setup,
-        0,
-        setup.geometry.page_size,
-        Sink::Buffer(0),
-        Phase::ReadingCache,
-    )
+    whole(setup, Sink::Buffer(0), Phase::ReadingCache)
 }
 
 // write_page's read-back, compared with the data.
 pub fn read_back(setup: Setup) -> Then
     ensures { result ≡ whole_then setup (Sink.Compare 0) Phase.Comparing }
 {
-    read_cache(
-        setup,
-        0,
-        setup.geometry.page_size,
-        Sink::Compare(0),
-        Phase::Comparing,
-    )
+    whole(setup, Sink::Compare(0), Phase::Comparing)
 }
 
 // is_bad_block's marker, in the first spare byte.

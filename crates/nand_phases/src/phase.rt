@@ -1,10 +1,11 @@
 // Where a call stands: which of its transfers is out, and what that is for.
+// Enums and no closures: the host holds this between two replies, by value, and no function may hand a closure out.
 ghost use Rattle.std.specs.Prelude.{◌≡◌};
 ghost use Rattle.nand_phases.specs.Verdict.{asks_verdict};
 
 use spi_flash::range::Span;
 
-// Here and below `bring_up` tells a part of bring_up from a call of its own.
+// Here and below `bring_up` tells a part of bring_up from a call of its own: the same value is kept in both, so it is no Option.
 #[derive(Clone, Copy)]
 pub enum ResetFor {
     Reset,
@@ -22,7 +23,7 @@ pub enum RegisterFor {
     Unprotect { before: u8, bring_up: bool },
 }
 
-// What is_bad_block is for.
+// What is_bad_block is for. Here and below `Call` is a call of its own, which the None of an Option would not say.
 #[derive(Clone, Copy)]
 pub enum MarkerFor {
     Call,

@@ -13,7 +13,7 @@ pub struct Setup {
     pub init: NandInit,
 }
 
-// bring_up puts down what it finds as it goes.
+// bring_up puts down what it finds as it goes. A function a field, as a function takes no field's name.
 impl Setup {
     pub fn identified_as(self, geometry: NandGeometry, id: NandJedecId) -> Setup
         ensures { result ≡ identified_as self geometry id }

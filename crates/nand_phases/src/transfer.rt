@@ -25,7 +25,8 @@ pub fn id_transfer() -> Transfer
     number::number_transfer(command::read_id_command(), 3)
 }
 
-// read_cache
+// read_cache. Both widths stand here, and in the NOR's transfers likewise: a common form would take both commands, the timing and the
+// margin beside what is read, and the match would stand at each call of it.
 #[tactic(auto, unfolding(crate::specs::Transfer::cache_read_transfer))]
 pub fn cache_read_transfer(config: SpiNandConfig, column: usize, len: usize, sink: Sink) -> Transfer
     ensures { result ≡ cache_read_transfer config column len sink }

@@ -28,6 +28,7 @@ pub fn erase_block(setup: Setup, block: usize, why: EraseFor) -> Then
     Err(FlashError::OutOfBounds)
 }
 
+// page::programmed tests another bit and goes on otherwise; only the two branches are alike.
 #[tactic(auto, unfolding(crate::specs::Block::erased_then))]
 pub fn erased(setup: Setup, why: EraseFor, status: Status) -> Then
     ensures { result ≡ erased_then setup why status }

@@ -12,6 +12,7 @@ use spi_flash::error::FlashError;
 use spi_flash::range::Span;
 
 // check_range, then the pages.
+// The NOR's `read` begins alike, over the Rust's other type of offset and other pieces: what they share is range_in_bounds and Span.
 #[tactic(auto, unfolding(crate::specs::Read::read_then))]
 pub fn read(setup: Setup, offset: usize, len: usize) -> Then
     ensures { result ≡ read_then setup offset len }

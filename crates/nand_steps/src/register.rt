@@ -1,5 +1,6 @@
 // The feature registers: bring_up, ensure_configuration, unprotect, disable_quad.
 ghost use Rattle.std.specs.Prelude.{◌≡◌};
+ghost use Rattle.nand_steps.specs.Go.{enable};
 ghost use Rattle.nand_steps.specs.Register.{id_of, geometry_for, identified_then, wanted_for, configure_then, configured_then, check_configuration, unprotect_then, unprotected_then, brought_up, disable_quad, quad_disabled, written_then};
 
 use crate::go;
@@ -15,15 +16,13 @@ use spi_nand::status::{Configuration, Protection};
 // The largest page that a read-back is made of.
 pub const MAX_VERIFY_PAGE_SIZE: usize = 4096;
 
-// The id in the number that READ ID gives.
+// The id in the number that READ ID gives. No From<u64>: not each number is an id.
+#[tactic(auto, unfolding(spi_nand::specs::Config::jedec_id_of))]
 pub fn id_of(v: u64) -> NandJedecId
     ensures { result ≡ id_of v }
 {
     let [.., manufacturer, high, low] = v.to_be_bytes();
-    NandJedecId {
-        manufacturer,
-        device: u16::from_be_bytes([high, low]),
-    }
+    NandJedecId::from_bytes([manufacturer, high, low])
 }
 
 // The caller's own geometry stays; else it is that of the id.
@@ -53,6 +52,19 @@ pub fn identified(setup: Setup, id: NandJedecId) -> Then
     Err(FlashError::NotSupported)
 }
 
+fn write_register(setup: Setup, register: u8, value: u8, why: RegisterFor) -> Then
+    ensures { result ≡ enable setup (EnableFor.Register register value why) }
+{
+    go::enable(
+        setup,
+        EnableFor::Register {
+            register,
+            value,
+            why,
+        },
+    )
+}
+
 // ---- ensure_configuration
 
 // ECC and buffer reads, and quad mode where it is configured.
@@ -70,6 +82,7 @@ fn wanted(config: SpiNandConfig, before: Configuration) -> Configuration
     }
 }
 
+// Here and below a register as it was read and `bring_up` stay two parameters: each function takes a struct of the two apart at once.
 // The register as it was read: it is written where it is not as wanted.
 #[tactic(auto, unfolding(crate::specs::Register::configure_then, spi_nand::specs::Status::same_configuration))]
 pub fn configure(setup: Setup, before: Configuration, bring_up: bool) -> Then
@@ -79,15 +92,13 @@ pub fn configure(setup: Setup, before: Configuration, bring_up: bool) -> Then
     if after == before {
         return configured(setup, before, bring_up);
     }
-    go::enable(
+    write_register(
         setup,
-        EnableFor::Register {
-            register: opcode::REG_CONFIGURATION,
-            value: after.byte(),
-            why: RegisterFor::Configure {
-                before: before.byte(),
-                bring_up,
-            },
+        opcode::REG_CONFIGURATION,
+        after.byte(),
+        RegisterFor::Configure {
+            before: before.byte(),
+            bring_up,
         },
     )
 }
@@ -123,7 +134,7 @@ pub fn check_configuration(
     Err(FlashError::NotSupported)
 }
 
-// ---- unprotect
+// ---- unprotect: the course of ensure_configuration, with another register, test and end
 
 #[tactic(auto, unfolding(crate::specs::Register::unprotect_then))]
 pub fn unprotect(setup: Setup, before: Protection, bring_up: bool) -> Then
@@ -132,15 +143,13 @@ pub fn unprotect(setup: Setup, before: Protection, bring_up: bool) -> Then
     if before.is_unlocked() {
         return unprotected(setup, before, bring_up);
     }
-    go::enable(
+    write_register(
         setup,
-        EnableFor::Register {
-            register: opcode::REG_BLOCK_PROTECTION,
-            value: 0x00,
-            why: RegisterFor::Unprotect {
-                before: before.byte(),
-                bring_up,
-            },
+        opcode::REG_BLOCK_PROTECTION,
+        0x00,
+        RegisterFor::Unprotect {
+            before: before.byte(),
+            bring_up,
         },
     )
 }
@@ -175,13 +184,11 @@ pub fn disable_quad(setup: Setup, before: Configuration) -> Then
 {
     if before.quad_enabled() {
         let after = before.with_bits(Configuration::QUAD_ENABLE, 0);
-        return go::enable(
+        return write_register(
             setup,
-            EnableFor::Register {
-                register: opcode::REG_CONFIGURATION,
-                value: after.byte(),
-                why: RegisterFor::DisableQuad,
-            },
+            opcode::REG_CONFIGURATION,
+            after.byte(),
+            RegisterFor::DisableQuad,
         );
     }
     go::done(setup)

@@ -1,11 +1,11 @@
 // The NAND's words: the Rust's names of its calls, what each takes, and its settings.
 ghost use Rattle.std.specs.Prelude.{◌≡◌};
-ghost use Rattle.std.specs.Str.{bytes_eq};
-ghost use Rattle.nand_words.specs.Name.{text_of, named_by, form_of, most_of, call_of};
+ghost use Rattle.nand_words.specs.Name.{named_by, form_of, most_of, call_of};
 ghost use Rattle.nand_words.specs.Setting.{quad_config, geometry, quad_given, own_given};
 
 use case_text::line::{Four, Quad};
 use flash_calls::call;
+use flash_words::words;
 use flash_words::words::Words;
 use nand_phases::call::Call;
 use spi_nand::config::{NandGeometry, NandQuadConfig, SpiNandConfig};
@@ -16,7 +16,8 @@ const BYTE_MOST: u64 = 255;
 
 const WORD_MOST: u64 = 18446744073709551615;
 
-// `new` is `with_config` at the settings above, and `new_single` is `new`.
+// The calls without their numbers and settings, which stand elsewhere in a case: `new` is `with_config` at the settings above, and
+// `new_single` is `new`.
 #[derive(Clone, Copy)]
 pub enum Name {
     New,
@@ -48,78 +49,36 @@ pub enum Name {
     MarkBadBlock,
 }
 
-const NAMES: [Name; 27] = [
-    Name::New,
-    Name::NewSingle,
-    Name::Info,
-    Name::Config,
-    Name::Geometry,
-    Name::Free,
-    Name::DisableQuad,
-    Name::WriteEnable,
-    Name::ReadStatus,
-    Name::ReadConfiguration,
-    Name::ReadProtection,
-    Name::Reset,
-    Name::JedecId,
-    Name::ResetAndIdentify,
-    Name::EnsureConfiguration,
-    Name::Unprotect,
-    Name::WriteRegister,
-    Name::ReadCache,
-    Name::ReadPage,
-    Name::Read,
-    Name::LoadProgramData,
-    Name::WritePage,
-    Name::PageRead,
-    Name::ProgramExecute,
-    Name::EraseBlock,
-    Name::IsBadBlock,
-    Name::MarkBadBlock,
+// As they are written in a case.
+const NAMES: [(&[u8], Name); 27] = [
+    (b"new", Name::New),
+    (b"new_single", Name::NewSingle),
+    (b"info", Name::Info),
+    (b"config", Name::Config),
+    (b"geometry", Name::Geometry),
+    (b"free", Name::Free),
+    (b"disable_quad", Name::DisableQuad),
+    (b"write_enable", Name::WriteEnable),
+    (b"read_status", Name::ReadStatus),
+    (b"read_configuration", Name::ReadConfiguration),
+    (b"read_protection", Name::ReadProtection),
+    (b"reset", Name::Reset),
+    (b"jedec_id", Name::JedecId),
+    (b"reset_and_identify", Name::ResetAndIdentify),
+    (b"ensure_configuration", Name::EnsureConfiguration),
+    (b"unprotect", Name::Unprotect),
+    (b"write_register", Name::WriteRegister),
+    (b"read_cache", Name::ReadCache),
+    (b"read_page", Name::ReadPage),
+    (b"read", Name::Read),
+    (b"load_program_data", Name::LoadProgramData),
+    (b"write_page", Name::WritePage),
+    (b"page_read", Name::PageRead),
+    (b"program_execute", Name::ProgramExecute),
+    (b"erase_block", Name::EraseBlock),
+    (b"is_bad_block", Name::IsBadBlock),
+    (b"mark_bad_block", Name::MarkBadBlock),
 ];
-
-impl Name {
-    #[tactic(auto, unfolding(crate::specs::Name::text_of))]
-    fn text(self) -> &'static [u8]
-        ensures { result.now ≡ text_of self }
-    {
-        match self {
-            Name::New => b"new",
-            Name::NewSingle => b"new_single",
-            Name::Info => b"info",
-            Name::Config => b"config",
-            Name::Geometry => b"geometry",
-            Name::Free => b"free",
-            Name::DisableQuad => b"disable_quad",
-            Name::WriteEnable => b"write_enable",
-            Name::ReadStatus => b"read_status",
-            Name::ReadConfiguration => b"read_configuration",
-            Name::ReadProtection => b"read_protection",
-            Name::Reset => b"reset",
-            Name::JedecId => b"jedec_id",
-            Name::ResetAndIdentify => b"reset_and_identify",
-            Name::EnsureConfiguration => b"ensure_configuration",
-            Name::Unprotect => b"unprotect",
-            Name::WriteRegister => b"write_register",
-            Name::ReadCache => b"read_cache",
-            Name::ReadPage => b"read_page",
-            Name::Read => b"read",
-            Name::LoadProgramData => b"load_program_data",
-            Name::WritePage => b"write_page",
-            Name::PageRead => b"page_read",
-            Name::ProgramExecute => b"program_execute",
-            Name::EraseBlock => b"erase_block",
-            Name::IsBadBlock => b"is_bad_block",
-            Name::MarkBadBlock => b"mark_bad_block",
-        }
-    }
-
-    fn is_written(self, word: &[u8]) -> bool
-        ensures { result ≡ bytes_eq (text_of self) word.now }
-    {
-        self.text() == word
-    }
-}
 
 // ---- settings
 
@@ -145,7 +104,7 @@ fn geometry(own: Four) -> NandGeometry
     }
 }
 
-// ---- the words
+// ---- the words: an instance of the trait, and what both drivers' do alike is in flash_words
 
 impl Words for Name {
     type Config = SpiNandConfig;
@@ -162,9 +121,9 @@ impl Words for Name {
 
     ghost with_own = { own_given };
 
-    #[tactic(auto, unfolding(crate::specs::Name::named_by))]
+    #[tactic(auto, unfolding(crate::specs::Name::text_of, crate::specs::Name::named_by))]
     fn named(word: &[u8]) -> Option<Name> {
-        NAMES.iter().copied().find(|name| name.is_written(word))
+        words::named(&NAMES, word)
     }
 
     fn form(self) -> Form {

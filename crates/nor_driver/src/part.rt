@@ -1,9 +1,10 @@
-// What the NOR has of its own, of which machine makes the driver.
+// What the NOR has of its own, of which machine makes the driver. An instance of its trait: what is alike is in machine.
 ghost use Rattle.std.specs.Prelude.{◌≡◌};
 ghost use Rattle.nor_driver.specs.Call.{nor_calls, not_built};
 ghost use Rattle.nor_driver.specs.Step.{nor_next};
 
 use frames::frame::Outcome;
+use frames::loan::Lengths;
 use machine::part::Part;
 use machine::state;
 use nor_answers::answer::Answer;
@@ -34,8 +35,8 @@ impl Part for Nor {
 
     ghost next = { nor_next };
 
-    fn opening(setup: Setup, call: Call, buffer_len: usize, data_len: usize) -> Opening {
-        opening::opening_of(setup, call, buffer_len, data_len)
+    fn opening(setup: Setup, call: Call, lengths: Lengths) -> Opening {
+        opening::opening_of(setup, call, lengths)
     }
 
     fn raised() -> Phase {

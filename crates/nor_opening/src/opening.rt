@@ -2,6 +2,7 @@
 ghost use Rattle.std.specs.Prelude.{◌≡◌};
 ghost use Rattle.nor_opening.specs.Opening.{given_device, fresh_setup, opening_of};
 
+use frames::loan::Lengths;
 use nor_answers::answer::Answer;
 use nor_pages::{erase, read, write};
 use nor_phases::call::Call;
@@ -18,7 +19,7 @@ fn given_device(config: SpiNorConfig) -> NorDeviceInfo
     config.device.unwrap_or(NorDeviceInfo::W25Q128JV)
 }
 
-// What the driver holds before the id is known.
+// What the driver holds before the id is known. The NAND's differs in each type and constant.
 pub fn fresh(config: SpiNorConfig) -> Setup
     ensures { result ≡ fresh_setup config }
 {
@@ -33,10 +34,10 @@ pub fn fresh(config: SpiNorConfig) -> Setup
     }
 }
 
-// Each call, with a buffer and data of these lengths.
+// Each call, with what is lent of these lengths.
 #[tactic(auto, unfolding(crate::specs::Opening::opening_of))]
-pub fn opening_of(setup: Setup, call: Call, buffer_len: usize, data_len: usize) -> Opening
-    ensures { result ≡ opening_of setup call buffer_len data_len }
+pub fn opening_of(setup: Setup, call: Call, lengths: Lengths) -> Opening
+    ensures { result ≡ opening_of setup call lengths.buffer lengths.«data» }
 {
     match call {
         Call::New => Opening::Constructs(fresh(SpiNorConfig::single())),
@@ -54,10 +55,13 @@ pub fn opening_of(setup: Setup, call: Call, buffer_len: usize, data_len: usize) 
         Call::EnableQuad => Opening::plain(go::read2(setup, Phase::EnableCheck2)),
         Call::DisableQuad => Opening::plain(go::read2(setup, Phase::DisableRead2)),
         Call::Read { offset } => {
-            Opening::filling(buffer_len, read::read_then(setup, offset, buffer_len))
+            Opening::filling(
+                lengths.buffer,
+                read::read_then(setup, offset, lengths.buffer),
+            )
         }
         Call::Write { offset } => {
-            Opening::sending(data_len, write::write_then(setup, offset, data_len))
+            Opening::sending(lengths.data, write::write_then(setup, offset, lengths.data))
         }
         Call::Unprotect => Opening::plain(go::read1(setup, Phase::UnprotectRead1)),
         Call::Erase { from, to } => Opening::plain(erase::erase_then(setup, from, to)),

@@ -34,7 +34,7 @@ pub fn read_from(setup: Setup, span: Span<u32>) -> Then
     go::end(setup, Answer::Done)
 }
 
-// `read` from its beginning: the range is tested first.
+// `read` from its beginning: the range is tested first. The NAND's begins alike, over the Rust's other type of offset and other pieces.
 #[tactic(auto, unfolding(crate::specs::Read::read_then))]
 pub fn read_then(setup: Setup, offset: u32, len: usize) -> Then
     ensures { result ≡ read_then setup offset len }

@@ -1,4 +1,5 @@
 // Where a call stands: which of its transfers is out.
+// Enums and no closures: the host holds this between two replies, by value, and no function may hand a closure out.
 use spi_flash::range::Span;
 
 #[derive(Clone, Copy)]

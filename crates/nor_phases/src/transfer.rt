@@ -56,6 +56,8 @@ pub fn past_page(device: NorDeviceInfo, s: Span<u32>) -> Span<u32>
     Span { done, ..s }
 }
 
+// Both widths stand here, and in the NAND's transfers likewise: a common form would take both commands, the timing and the margin
+// beside what is read, and the match would stand at each call of it.
 #[tactic(auto, unfolding(crate::specs::Transfer::read_transfer))]
 pub fn read_transfer(setup: Setup, offset: u32, len: usize, sink: Sink) -> Transfer
     ensures { result ≡ read_transfer setup offset len sink }

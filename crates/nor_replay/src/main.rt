@@ -1,6 +1,7 @@
 // Replays the construction of a single-line NOR over the tape on standard input, and prints its actions.
 #![tactic(auto)]
 
+use frames::loan::Loan;
 use lines::text::Writer;
 use nor_driver::part::Nor;
 use nor_tape::program;
@@ -12,23 +13,25 @@ use std::io;
 const LINES_MOST: u32 = 6;
 
 fn main(rt: HostRuntime) -> io::Result<()> {
-    // One byte more than the longest tape, to tell a longer one.
+    // An array of fixed size, as there is no heap: one byte more than the longest tape, to tell a longer one.
     let mut input = [0u8; 65537];
     let n = streams::read_full(&rt, &mut input)?;
     let tape = bytes::delivered(&input, n);
-    let mut scratch = [0u8; 264];
-    let mut buffer = [0u8; 0];
-    let data = [0u8; 0];
+    let mut lent = Loan {
+        scratch: &mut [0u8; 264],
+        buffer: &mut [],
+        data: &[],
+    };
     let mut out = [0u8; 64];
-    let mut now = program::begin(tape, &scratch);
+    let mut now = program::begin(tape, lent.scratch);
     for _ in 0..LINES_MOST {
         let mut line = Writer::new(&mut out);
-        program::line(now, &scratch, &mut line);
+        program::line(now, lent.scratch, &mut line);
         streams::write_all(&rt, line.written())?;
         if program::over(now) {
             return Ok(());
         }
-        now = call::advance::<Nor>(now, tape, &mut scratch, &mut buffer, &data);
+        now = call::advance::<Nor>(now, tape, &mut lent);
     }
     Ok(())
 }

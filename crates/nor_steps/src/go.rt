@@ -1,57 +1,51 @@
 // The steps that calls are made of.
 ghost use Rattle.std.specs.Prelude.{◌≡◌};
-ghost use Rattle.nor_steps.specs.Go.{read1_then, read2_then, read_id_then, read_unique_id_then, enabled_then, done_if, supported_if};
+ghost use Rattle.spi_flash.specs.Number.{number_transfer};
+ghost use Rattle.nor_steps.specs.Go.{go_to, read1_then, read2_then, read_id_then, read_unique_id_then, enabled_then, done_if, supported_if};
 
 use crate::then::Then;
 pub use machine::then::{end, go};
 use nor_answers::answer::Answer;
 use nor_phases::phase::{Phase, Task, WriteStep};
 use nor_phases::setup::Setup;
+use qspi::command::Command;
 use qspi::transfer::Transfer;
 use spi_flash::error::FlashError;
 use spi_flash::number;
 use spi_nor::command;
 
+// A read of a register or an id: the calls below differ in the command and the number of bytes.
+fn read(setup: Setup, command: Command, len: usize, phase: Phase) -> Then
+    ensures { result ≡ go_to setup (number_transfer command len) phase }
+{
+    go(setup, number::number_transfer(command, len), phase)
+}
+
 pub fn read1(setup: Setup, phase: Phase) -> Then
     ensures { result ≡ read1_then setup phase }
 {
-    go(
-        setup,
-        number::number_transfer(command::read_status1_command(), 1),
-        phase,
-    )
+    read(setup, command::read_status1_command(), 1, phase)
 }
 
 pub fn read2(setup: Setup, phase: Phase) -> Then
     ensures { result ≡ read2_then setup phase }
 {
-    go(
-        setup,
-        number::number_transfer(command::read_status2_command(), 1),
-        phase,
-    )
+    read(setup, command::read_status2_command(), 1, phase)
 }
 
 pub fn read_id(setup: Setup, phase: Phase) -> Then
     ensures { result ≡ read_id_then setup phase }
 {
-    go(
-        setup,
-        number::number_transfer(command::read_id_command(), 3),
-        phase,
-    )
+    read(setup, command::read_id_command(), 3, phase)
 }
 
 pub fn read_unique_id(setup: Setup, phase: Phase) -> Then
     ensures { result ≡ read_unique_id_then setup phase }
 {
-    go(
-        setup,
-        number::number_transfer(command::read_unique_id_command(), 8),
-        phase,
-    )
+    read(setup, command::read_unique_id_command(), 8, phase)
 }
 
+// As the NAND's `enable`, over the NOR's phases.
 pub fn enabled(setup: Setup, task: Task) -> Then
     ensures { result ≡ enabled_then setup task }
 {
@@ -80,8 +74,5 @@ pub fn done_if(test: bool, setup: Setup, other: Then) -> Then
 pub fn supported_if(test: bool, setup: Setup) -> Then
     ensures { result ≡ supported_if test setup }
 {
-    if test {
-        return end(setup, Answer::Done);
-    }
-    Err(FlashError::NotSupported)
+    done_if(test, setup, Err(FlashError::NotSupported))
 }

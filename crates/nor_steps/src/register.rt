@@ -16,7 +16,7 @@ use spi_nor::status;
 // The largest page that a read-back is made of.
 pub const MAX_VERIFY_PAGE_SIZE: usize = 512;
 
-// The id in the number that READ ID gives.
+// The id in the number that READ ID gives. No From<u64>: not each number is an id.
 pub fn id_of(v: u64) -> NorJedecId
     ensures { result ≡ id_of v }
 {
@@ -28,7 +28,7 @@ pub fn id_of(v: u64) -> NorJedecId
     }
 }
 
-// The caller's own device stays; else it is that of the id.
+// The caller's own device stays; else it is that of the id. The NAND's geometry likewise: each type and lookup is another.
 #[tactic(auto, unfolding(crate::specs::Register::device_for))]
 fn device_for(setup: Setup, id: NorJedecId) -> NorDeviceInfo
     ensures { result ≡ device_for setup id }
@@ -72,19 +72,19 @@ pub fn quad_flag(setup: Setup, status2: u8) -> Then
 
 // ---- enable_quad
 
-// The bit in status register 2, as it was before.
-pub fn enable_check2(setup: Setup, status2: u8) -> Then
-    ensures { result ≡ done_if (quad_enabled2_of status2) setup (read1_then setup Phase.EnableCheck1) }
+// The bit in status register 2: where it is not set, status register 1 is read, for its own bit or to set it there.
+pub fn enable_by2(setup: Setup, status2: u8, next: Phase) -> Then
+    ensures { result ≡ done_if (quad_enabled2_of status2) setup (read1_then setup next) }
 {
     go::done_if(
         status::any(status::QE_SR2, status2),
         setup,
-        go::read1(setup, Phase::EnableCheck1),
+        go::read1(setup, next),
     )
 }
 
 // The bit in status register 1, as it was before.
-pub fn enable_check1(setup: Setup, status1: u8) -> Then
+pub fn enable_by1(setup: Setup, status1: u8) -> Then
     ensures { result ≡ done_if (quad_enabled1_of status1) setup (read2_then setup Phase.EnableRead2) }
 {
     go::done_if(
@@ -94,18 +94,7 @@ pub fn enable_check1(setup: Setup, status1: u8) -> Then
     )
 }
 
-// The bit in status register 2, read back: where the part has not taken it, status register 1 is tried.
-pub fn enable_verify2(setup: Setup, status2: u8) -> Then
-    ensures { result ≡ done_if (quad_enabled2_of status2) setup (read1_then setup Phase.EnableRead1) }
-{
-    go::done_if(
-        status::any(status::QE_SR2, status2),
-        setup,
-        go::read1(setup, Phase::EnableRead1),
-    )
-}
-
-// ---- disable_quad
+// ---- disable_quad: two looks, with another bit, task and end each
 
 // Status register 2 first: where its bit is not set, status register 1 is looked at.
 pub fn disable_first(setup: Setup, status2: u8) -> Then

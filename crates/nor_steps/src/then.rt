@@ -1,4 +1,4 @@
-// What follows a transfer.
+// What follows a transfer: the machine's types at this part's own, which only their names tell from the other part's.
 use machine::then;
 use nor_answers::answer::Answer;
 use nor_phases::phase::Phase;

@@ -3,6 +3,7 @@ ghost use Rattle.std.specs.Prelude.{◌≡◌, length};
 ghost use Rattle.lines.specs.Writing.{Appends};
 ghost use Rattle.nor_tape.specs.Program.{begun_input, over_of, line_at};
 
+use frames::loan::Lengths;
 use lines::text::Writer;
 use machine::state::Given;
 use nor_driver::part;
@@ -22,7 +23,12 @@ pub fn begin(input: &[u8], scratch: &[u8]) -> ReplayOf<Nor>
 {
     let flash = part::not_built();
     if input.len() <= INPUT_MOST {
-        return call::begin::<Nor>(flash, Call::New, input, scratch, scratch, scratch);
+        return call::begin::<Nor>(
+            flash,
+            Call::New,
+            input,
+            Lengths::new(scratch, scratch, scratch),
+        );
     }
     Replay::new(flash.refused(FlashError::MalformedTape), 0)
 }

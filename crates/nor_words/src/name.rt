@@ -1,11 +1,11 @@
 // The NOR's words: the Rust's names of its calls, what each takes, and its settings.
 ghost use Rattle.std.specs.Prelude.{◌≡◌};
-ghost use Rattle.std.specs.Str.{bytes_eq};
-ghost use Rattle.nor_words.specs.Name.{text_of, named_by, form_of, most_of, call_of};
+ghost use Rattle.nor_words.specs.Name.{named_by, form_of, most_of, call_of};
 ghost use Rattle.nor_words.specs.Setting.{quad_config, device_info, quad_given, own_given};
 
 use case_text::line::{Four, Quad};
 use flash_calls::call;
+use flash_words::words;
 use flash_words::words::Words;
 use nor_phases::call::Call;
 use spi_nor::config::{NorDeviceInfo, NorQuadConfig, SpiNorConfig};
@@ -14,7 +14,8 @@ use trace_words::request::Form;
 // An offset of the Rust has 32 bits.
 const OFFSET_MOST: u64 = 4294967295;
 
-// `new` is `with_config` at the settings above, and `new_single` is `new`.
+// The calls without their numbers and settings, which stand elsewhere in a case: `new` is `with_config` at the settings above, and
+// `new_single` is `new`.
 #[derive(Clone, Copy)]
 pub enum Name {
     New,
@@ -39,64 +40,29 @@ pub enum Name {
     EraseBlock,
 }
 
-const NAMES: [Name; 20] = [
-    Name::New,
-    Name::NewSingle,
-    Name::Config,
-    Name::Device,
-    Name::Id,
-    Name::Free,
-    Name::ReadStatus1,
-    Name::ReadStatus2,
-    Name::IsBusy,
-    Name::JedecId,
-    Name::UniqueId,
-    Name::QuadEnabled,
-    Name::EnableQuad,
-    Name::DisableQuad,
-    Name::Unprotect,
-    Name::Read,
-    Name::Write,
-    Name::Erase,
-    Name::EraseSector,
-    Name::EraseBlock,
+// As they are written in a case.
+const NAMES: [(&[u8], Name); 20] = [
+    (b"new", Name::New),
+    (b"new_single", Name::NewSingle),
+    (b"config", Name::Config),
+    (b"device", Name::Device),
+    (b"id", Name::Id),
+    (b"free", Name::Free),
+    (b"read_status1", Name::ReadStatus1),
+    (b"read_status2", Name::ReadStatus2),
+    (b"is_busy", Name::IsBusy),
+    (b"jedec_id", Name::JedecId),
+    (b"unique_id", Name::UniqueId),
+    (b"quad_enabled", Name::QuadEnabled),
+    (b"enable_quad", Name::EnableQuad),
+    (b"disable_quad", Name::DisableQuad),
+    (b"unprotect", Name::Unprotect),
+    (b"read", Name::Read),
+    (b"write", Name::Write),
+    (b"erase", Name::Erase),
+    (b"erase_sector", Name::EraseSector),
+    (b"erase_block", Name::EraseBlock),
 ];
-
-impl Name {
-    #[tactic(auto, unfolding(crate::specs::Name::text_of))]
-    fn text(self) -> &'static [u8]
-        ensures { result.now ≡ text_of self }
-    {
-        match self {
-            Name::New => b"new",
-            Name::NewSingle => b"new_single",
-            Name::Config => b"config",
-            Name::Device => b"device",
-            Name::Id => b"id",
-            Name::Free => b"free",
-            Name::ReadStatus1 => b"read_status1",
-            Name::ReadStatus2 => b"read_status2",
-            Name::IsBusy => b"is_busy",
-            Name::JedecId => b"jedec_id",
-            Name::UniqueId => b"unique_id",
-            Name::QuadEnabled => b"quad_enabled",
-            Name::EnableQuad => b"enable_quad",
-            Name::DisableQuad => b"disable_quad",
-            Name::Unprotect => b"unprotect",
-            Name::Read => b"read",
-            Name::Write => b"write",
-            Name::Erase => b"erase",
-            Name::EraseSector => b"erase_sector",
-            Name::EraseBlock => b"erase_block",
-        }
-    }
-
-    fn is_written(self, word: &[u8]) -> bool
-        ensures { result ≡ bytes_eq (text_of self) word.now }
-    {
-        self.text() == word
-    }
-}
 
 // ---- settings
 
@@ -122,7 +88,7 @@ fn device_info(own: Four) -> NorDeviceInfo
     }
 }
 
-// ---- the words
+// ---- the words: an instance of the trait, and what both drivers' do alike is in flash_words
 
 impl Words for Name {
     type Config = SpiNorConfig;
@@ -139,9 +105,9 @@ impl Words for Name {
 
     ghost with_own = { own_given };
 
-    #[tactic(auto, unfolding(crate::specs::Name::named_by))]
+    #[tactic(auto, unfolding(crate::specs::Name::text_of, crate::specs::Name::named_by))]
     fn named(word: &[u8]) -> Option<Name> {
-        NAMES.iter().copied().find(|name| name.is_written(word))
+        words::named(&NAMES, word)
     }
 
     fn form(self) -> Form {

@@ -41,7 +41,7 @@ pub enum Reply {
     Error(u8),
 }
 
-// What an action awaits.
+// What an action awaits. Not an Option: each variant names which replies fit.
 #[derive(Clone, Copy)]
 pub enum Awaits {
     Done,

@@ -4,7 +4,7 @@ ghost use Rattle.qspi.specs.Transfer.{command_only};
 
 use crate::command::Command;
 
-// The bytes behind a command that writes.
+// The bytes behind a command that writes. A place and a length, as in `bus::Part`.
 #[derive(Clone, Copy)]
 pub enum Payload {
     // A part of the caller's data, sent uncopied.

@@ -1,8 +1,10 @@
 // A call over a tape, step by step.
-ghost use Rattle.std.specs.Prelude.{◌≡◌, length};
+ghost use Rattle.std.specs.Prelude.{◌≡◌};
+ghost use Rattle.frames.specs.Loan.{SameLoan, lending, returning};
 ghost use Rattle.tape.specs.Replaying.{begun_over, plain_over, record_over, advanced_over, played_to};
 ghost use Rattle.replay.specs.Replay.{replay_at, taped};
 
+use frames::loan::{Lengths, Loan};
 use machine::part::{FlashOf, Part};
 use machine::state::{Given, Stepped};
 use machine::{call as calls, step};
@@ -35,79 +37,53 @@ pub fn begin<D: Part>(
     flash: FlashOf<D>,
     call: D::Call,
     tape: &[u8],
-    scratch: &[u8],
-    buffer: &[u8],
-    data: &[u8],
+    lengths: Lengths,
 ) -> ReplayOf<D>
-    ensures { result ≡ begun_over (taped D.calls D.next) flash call tape.now (length scratch.now) (length buffer.now) (length «data».now) }
+    ensures { result ≡ begun_over (taped D.calls D.next) flash call tape.now lengths.scratch lengths.buffer lengths.«data» }
 {
-    if let Some(at) = judge::first(tape) {
-        return Replay::new(calls::begin::<D>(flash, call, scratch, buffer, data), at);
+    if let Some(at) = judge::start(tape) {
+        return Replay::new(calls::begin::<D>(flash, call, lengths), at);
     }
     Replay::new(flash.refused(FlashError::MalformedTape), 0)
 }
 
 // The reply that is no record: select and delay.
 #[tactic(auto, unfolding(tape::specs::Replaying::plain_over))]
-fn plain<D: Part>(
-    flash: FlashOf<D>,
-    at: usize,
-    scratch: &mut [u8],
-    buffer: &mut [u8],
-    data: &[u8],
-) -> ReplayOf<D>
-    ensures { played_to result scratch.new buffer.new ≡ plain_over (taped D.calls D.next) flash at scratch.old buffer.old «data».now }
+fn plain<D: Part>(flash: FlashOf<D>, at: usize, lent: &mut Loan) -> ReplayOf<D>
+    ensures same { SameLoan lent.old lent.new }
+    ensures played { returning (played_to result) lent.new ≡ lending (plain_over (taped D.calls D.next) flash at) lent.old }
 {
-    Replay::new(
-        step::step::<D>(flash, Reply::Done, &[], scratch, buffer, data),
-        at,
-    )
+    Replay::new(step::step::<D>(flash, Reply::Done, &[], lent), at)
 }
 
 // The reply in the reader's next record. Where there is none, the call stays unfinished.
 #[tactic(auto, unfolding(tape::specs::Replaying::record_over))]
-fn recorded<D: Part>(
-    flash: FlashOf<D>,
-    mut reader: Reader,
-    scratch: &mut [u8],
-    buffer: &mut [u8],
-    data: &[u8],
-) -> ReplayOf<D>
-    ensures { played_to result scratch.new buffer.new ≡ record_over (taped D.calls D.next) flash reader.entry.at reader.entry.tape.now scratch.old buffer.old «data».now }
+fn recorded<D: Part>(flash: FlashOf<D>, mut reader: Reader, lent: &mut Loan) -> ReplayOf<D>
+    ensures same { SameLoan lent.old lent.new }
+    ensures played { returning (played_to result) lent.new ≡ lending (record_over (taped D.calls D.next) flash reader.entry.at reader.entry.tape.now) lent.old }
 {
     let Some(record) = reader.next() else {
         return Replay::new(flash.refused(FlashError::TapeSpent), reader.at);
     };
     let bytes = record.data(reader.tape);
-    let stepped = step::step::<D>(flash, record.reply(), bytes, scratch, buffer, data);
+    let stepped = step::step::<D>(flash, record.reply(), bytes, lent);
     Replay::new(stepped, reader.at)
 }
 
 // Performs the action that is out. A replay that has come to an end stays as it is.
 #[tactic(auto, unfolding(tape::specs::Replaying::advanced_over, tape::specs::Replaying::advanced_then))]
-pub fn advance<D: Part>(
-    replay: ReplayOf<D>,
-    tape: &[u8],
-    scratch: &mut [u8],
-    buffer: &mut [u8],
-    data: &[u8],
-) -> ReplayOf<D>
-    ensures { played_to result scratch.new buffer.new ≡ advanced_over (taped D.calls D.next) replay tape.now scratch.old buffer.old «data».now }
+pub fn advance<D: Part>(replay: ReplayOf<D>, tape: &[u8], lent: &mut Loan) -> ReplayOf<D>
+    ensures same { SameLoan lent.old lent.new }
+    ensures played { returning (played_to result) lent.new ≡ lending (advanced_over (taped D.calls D.next) replay tape.now) lent.old }
 {
     let stepped = replay.stepped;
     let given = stepped.given;
     match given {
         Given::Act(action) => {
             if bus::on_bus(action) {
-                recorded::<D>(
-                    stepped.flash,
-                    Reader::new(tape, replay.at),
-                    scratch,
-                    buffer,
-                    data,
-                )
+                recorded::<D>(stepped.flash, Reader::new(tape, replay.at), lent)
             } else {
-                plain::<D>(stepped.flash, replay.at, scratch, buffer, data)
+                plain::<D>(stepped.flash, replay.at, lent)
             }
         }
         Given::Ended(_) | Given::Failed(_) | Given::Refused(_) => replay,

@@ -1,11 +1,12 @@
-// What a host lends at each step of a call: scratch, buffer and data, as three slices, for a struct of them would put borrows of borrows
-// into each contract.
+// What a call takes of what a host lends at each step.
 ghost use Rattle.std.specs.Prelude.{◌≡◌};
 ghost use Rattle.frames.specs.Frame.{exchanged_to};
+ghost use Rattle.frames.specs.Loan.{SameLoan, lending, returning};
 ghost use Rattle.spi_flash.specs.Loan.{ready_of, exchange_for};
 
 use frames::exchange;
 use frames::frame::{Exchanged, Frame};
+use frames::loan::{Lengths, Loan};
 use qspi::bus::Reply;
 use qspi::command::SCRATCH_LEN;
 
@@ -19,14 +20,14 @@ pub enum Takes {
 
 // Whether the lengths lent are fit for a step of the call.
 #[tactic(auto, unfolding(crate::specs::Loan::ready_of))]
-pub fn ready(takes: Takes, scratch_len: usize, buffer_len: usize, data_len: usize) -> bool
-    ensures { result ≡ ready_of takes scratch_len buffer_len data_len }
+pub fn ready(takes: Takes, lengths: Lengths) -> bool
+    ensures { result ≡ ready_of takes lengths.scratch lengths.buffer lengths.«data» }
 {
-    SCRATCH_LEN <= scratch_len
+    SCRATCH_LEN <= lengths.scratch
         && match takes {
             Takes::Nothing => true,
-            Takes::Buffer(n) => buffer_len == n,
-            Takes::Data(n) => data_len == n,
+            Takes::Buffer(n) => lengths.buffer == n,
+            Takes::Data(n) => lengths.data == n,
         }
 }
 
@@ -38,14 +39,13 @@ pub fn exchange(
     frame: Frame,
     reply: Reply,
     bytes: &[u8],
-    scratch: &mut [u8],
-    buffer: &mut [u8],
-    data: &[u8],
+    lent: &mut Loan,
 ) -> Exchanged
-    ensures { exchanged_to result scratch.new buffer.new ≡ exchange_for takes frame reply bytes.now scratch.old buffer.old «data».now }
+    ensures same { SameLoan lent.old lent.new }
+    ensures exchanged { returning (exchanged_to result) lent.new ≡ lending (exchange_for takes frame reply bytes.now) lent.old }
 {
-    if !ready(takes, scratch.len(), buffer.len(), data.len()) {
+    if !ready(takes, lent.lengths()) {
         return Exchanged::Misfit;
     }
-    exchange::exchange(frame, reply, bytes, scratch, buffer, data)
+    exchange::exchange(frame, reply, bytes, lent)
 }

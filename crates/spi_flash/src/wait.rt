@@ -10,6 +10,7 @@ pub struct Timings {
     pub timeout_us: u32,
 }
 
+// Not a Result: a look and a pause go on, and the driver says which error a Timeout is.
 #[derive(Clone, Copy)]
 pub enum Wait {
     // Look at the status.

@@ -1,4 +1,5 @@
-// The commands that the driver sends: the arrays of nand/driver.rs.
+// The commands that the driver sends: the arrays of nand/driver.rs. A function a row: a generic one would take the opcode in place of
+// a name.
 ghost use Rattle.std.specs.Prelude.{◌≡◌, ◌%◌};
 ghost use Rattle.spi_nand.specs.Command.{row_address, column_address, reset_command, read_id_command, get_feature_command, set_feature_command, write_enable_command, page_read_command, read_cache_command, block_erase_command, load_program_data_command, program_execute_command, quad_read_cache_command, quad_load_program_data_command};
 

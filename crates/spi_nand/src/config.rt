@@ -13,6 +13,7 @@ pub struct NandJedecId {
 }
 
 impl NandJedecId {
+    // The Rust's name, in place of a From.
     #[tactic(auto, unfolding(crate::specs::Config::jedec_id_of))]
     pub fn from_bytes(bytes: [u8; 3]) -> Self
         ensures { result ≡ jedec_id_of bytes }
@@ -186,6 +187,7 @@ pub struct SpiNandConfig {
     pub geometry: Option<NandGeometry>,
 }
 
+// These are the Rust's, and so are the NOR's: one for both would take both of the types of the fields, and is longer.
 impl SpiNandConfig {
     pub fn single() -> Self
         ensures { result ≡ single_config }

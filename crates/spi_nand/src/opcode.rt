@@ -1,4 +1,5 @@
-// Opcodes, register addresses and wait limits (nand/opcode.rs).
+// Opcodes, register addresses and wait limits (nand/opcode.rs). The Rust has such a file for each part, and they share no more than
+// numbers.
 ghost use Rattle.std.specs.Prelude.{◌≡◌};
 ghost use Rattle.spi_nand.specs.Opcode.{timings_of};
 

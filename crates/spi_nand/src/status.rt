@@ -63,6 +63,7 @@ impl Status {
     pub fn ecc_verdict(self) -> EccVerdict
         ensures { result ≡ verdict_of self }
     {
+        // Two bits of the register, which the datasheet numbers: a match over numbers is where they become the enum.
         match (self.0 & Self::ECC_MASK) >> 4 {
             0 => EccVerdict::NoBitFlips,
             1 => EccVerdict::Corrected,

@@ -1,4 +1,4 @@
-// The commands that the driver sends (nor/driver.rs).
+// The commands that the driver sends (nor/driver.rs). A function a row: a generic one would take the opcode in place of a name.
 ghost use Rattle.std.specs.Prelude.{◌≡◌};
 ghost use Rattle.spi_nor.specs.Command.{write_enable_command, read_status1_command, read_status2_command, write_status1_command, write_status2_command, read_id_command, read_unique_id_command, read_command, page_program_command, sector_erase_command, block_erase_command, quad_read_command, quad_page_program_command};
 

@@ -169,6 +169,7 @@ pub struct SpiNorConfig {
     pub device: Option<NorDeviceInfo>,
 }
 
+// These are the Rust's, and so are the NAND's: one for both would take both of the types of the fields, and is longer.
 impl SpiNorConfig {
     pub fn single() -> Self
         ensures { result ≡ single_config }

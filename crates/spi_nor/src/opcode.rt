@@ -1,4 +1,4 @@
-// Opcodes and wait limits (nor/opcode.rs).
+// Opcodes and wait limits (nor/opcode.rs). The Rust has such a file for each part, and they share no more than numbers.
 ghost use Rattle.std.specs.Prelude.{◌≡◌};
 ghost use Rattle.spi_nor.specs.Opcode.{timings_of};
 

@@ -12,6 +12,7 @@ pub fn read_full(rt: &impl Input, buf: &mut [u8]) -> io::Result<usize>
 {
     let mut reader = rt.reader();
     let mut done = 0;
+    // A read may give fewer bytes than asked for: no iterator or method of std reads until the end into memory that is lent.
     while done < buf.len() {
         let n = reader.read(&mut buf[done..])?;
         if n == 0 {

@@ -42,17 +42,23 @@ taken_in s at =
 abbrev pub taken_at : List ℕ → ℕ → Taken
 taken_at tape at = taken_in (ahead_of tape at) at
 
--- the kind of a record
-abbrev pub number_of_record : Record → ℕ
-number_of_record Record.Done = done_kind
-number_of_record (Record.Data from len) = data_kind
-number_of_record (Record.BusError code) = error_kind
+-- 16: a bus action awaits a reply, and no record is left
+abbrev pub spent_number : ℕ
+spent_number = 16
 
--- the length in a record's header
-abbrev pub length_of : Record → ℕ
-length_of Record.Done = done_length
-length_of (Record.Data from len) = len
-length_of (Record.BusError code) = error_length
+-- the number of each answer: a record's kind, or that of the refusal
+abbrev pub number_of_record : Option Record → ℕ
+number_of_record (Some Record.Done) = done_kind
+number_of_record (Some (Record.Data from len)) = data_kind
+number_of_record (Some (Record.BusError code)) = error_kind
+number_of_record None = spent_number
+
+-- the length in a record's header; 0 without one
+abbrev pub length_of : Option Record → ℕ
+length_of (Some Record.Done) = done_length
+length_of (Some (Record.Data from len)) = len
+length_of (Some (Record.BusError code)) = error_length
+length_of None = 0
 
 -- the bytes of data, as they stand on the tape
 abbrev pub data_of : List ℕ → Option Record → List ℕ

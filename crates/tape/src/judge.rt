@@ -1,6 +1,6 @@
 // Whether a tape is well formed, and where its first record stands. The whole tape is judged, records that no replay reaches too.
 ghost use Rattle.std.specs.Prelude.{◌≡◌};
-ghost use Rattle.tape.specs.Judge.{end_from, pointer_of, accepted_of, start_of};
+ghost use Rattle.tape.specs.Judge.{end_from, pointer_of, accepted_of, first_of, start_of};
 
 use crate::reader::Reader;
 use crate::record;
@@ -15,6 +15,7 @@ pub fn end_from(tape: &[u8], from: usize) -> usize
     ensures { result ≡ end_from tape.now from }
 {
     let mut reader = Reader::new(tape, from);
+    // A `for` takes the reader, whose position is the answer; over `by_ref` the invariant has no name for it.
     while let Some(_) = reader.next() {}
     reader.at
 }
@@ -45,8 +46,16 @@ pub fn well_formed(tape: &[u8]) -> bool
 
 // The first record's position; none on a tape that is not well formed.
 #[tactic(auto, unfolding(crate::specs::Judge::first_of))]
-pub fn first(tape: &[u8]) -> Option<usize>
+pub fn start(tape: &[u8]) -> Option<usize>
     ensures { result ≡ start_of tape.now }
 {
     well_formed(tape).then_some(pointer(tape))
+}
+
+// The same with 0 for none.
+#[tactic(auto, unfolding(crate::specs::Judge::first_of))]
+pub fn first(tape: &[u8]) -> usize
+    ensures { result ≡ first_of tape.now }
+{
+    if well_formed(tape) { pointer(tape) } else { 0 }
 }

@@ -5,12 +5,15 @@ ghost use Rattle.tape.specs.Record.{trailer_at, number_of_record, length_of, dat
 use qspi::bus::Reply;
 use qspi::bytes;
 
-// The byte that a record begins with, by its kind.
+// The byte that a record begins with, by its kind: numbers, since they are the tape's format. `Record` is the enum of the kinds.
 pub const DONE: u8 = 0;
 
 pub const DATA: u8 = 1;
 
 pub const BUS_ERROR: u8 = 2;
+
+// The number of an answer without a record: a bus action awaits a reply, and none is left.
+pub const SPENT: u8 = 16;
 
 // The only lengths of the kinds other than data.
 pub const DONE_LEN: usize = 0;
@@ -28,7 +31,7 @@ pub const TRAILER_LEN: usize = 3;
 #[derive(Clone, Copy)]
 pub enum Record {
     Done,
-    // The bytes are a part of the tape.
+    // The bytes are a part of the tape, by place and length: a slice would keep the tape lent from one record to the next.
     Data { from: usize, len: usize },
     BusError(u8),
 }
@@ -49,7 +52,7 @@ pub fn trailer_at(tape: &[u8]) -> usize
 
 impl Record {
     pub fn kind(self) -> u8
-        ensures { result ≡ number_of_record self }
+        ensures { result ≡ number_of_record (Some self) }
     {
         match self {
             Record::Done => DONE,
@@ -60,7 +63,7 @@ impl Record {
 
     // The length in the record's header.
     pub fn len(self) -> usize
-        ensures { result ≡ length_of self }
+        ensures { result ≡ length_of (Some self) }
     {
         match self {
             Record::Done => DONE_LEN,
@@ -88,5 +91,25 @@ impl Record {
             Record::Data { .. } => Reply::Data,
             Record::BusError(code) => Reply::Error(code),
         }
+    }
+}
+
+// The number of an answer: a record's kind, or the refusal's.
+pub fn number(answer: Option<Record>) -> u8
+    ensures { result ≡ number_of_record answer }
+{
+    match answer {
+        Some(record) => record.kind(),
+        None => SPENT,
+    }
+}
+
+// The length in the answer's header; 0 where it has none.
+pub fn length(answer: Option<Record>) -> usize
+    ensures { result ≡ length_of answer }
+{
+    match answer {
+        Some(record) => record.len(),
+        None => 0,
     }
 }

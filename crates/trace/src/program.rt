@@ -7,6 +7,7 @@ use std::io;
 use trace_case::advance;
 use trace_turns::budget;
 
+// Arrays of fixed size below: there is no heap. As many as the C functions take, one by one.
 // One byte more than the longest text, to tell a longer one.
 const INPUT: usize = 4194305;
 

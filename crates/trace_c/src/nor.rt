@@ -1,4 +1,4 @@
-// The NOR's trace as a function of C.
+// The NOR's trace as a function of C. A name of C's is no generic one, so each driver has its own.
 ghost use Rattle.std.specs.Prelude.{◌≡◌};
 ghost use Rattle.lines.specs.Text.{text_of};
 ghost use Rattle.flash_calls.specs.declared.call.Kind.{Kind};

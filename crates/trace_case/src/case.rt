@@ -10,7 +10,7 @@ use lines::text::Writer;
 use qspi::command::SCRATCH_LEN;
 use trace_turns::budget;
 
-// Turn after turn until the trace is over.
+// Turn after turn until the trace is over. Room, reply and out stay three parameters: they are the C functions' own.
 fn turns(kind: Kind, text: &[u8], room: &mut [u8], reply: &mut [u8], out: &mut Writer)
     ensures same { SameRoom out.old out.new }
     ensures text_after { text_in out.new ≡ (case_behind kind text.now room.old reply.old (text_in out.old)).text }

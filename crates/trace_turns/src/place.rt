@@ -4,7 +4,7 @@ ghost use Rattle.trace_turns.specs.Place.{start_of, over_of, in_mode, read_to, s
 
 use spi_flash::loan::Takes;
 
-// What the next turn does.
+// What the next turn does. An enum and no closure: the program holds it between two turns.
 #[derive(Clone, Copy)]
 pub enum Mode {
     // It takes a line between two calls.

@@ -77,7 +77,7 @@ fn data(line: &[u8], room_len: usize) -> Option<Takes>
     None
 }
 
-// ---- the forms
+// ---- the forms: each has its words and reads its own of them. One for all would take how many, which, and what is lent.
 
 #[tactic(auto, unfolding(crate::specs::Request::plain_of))]
 fn plain(line: &[u8]) -> Option<Request>

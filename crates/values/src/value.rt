@@ -5,6 +5,7 @@ ghost use Rattle.values.specs.Value.{flag_value, setting_values};
 // The numbers of a setting.
 pub const SETTING_NUMBERS: usize = 4;
 
+// The trace's `0 or 1`: a From by the name of that definition.
 pub fn flag(f: bool) -> u64
     ensures { result ≡ flag_value f }
 {
