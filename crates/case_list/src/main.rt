@@ -9,7 +9,7 @@ use std::io;
 use trace_case::case;
 
 // The limits of this program; `trace` has its own. Its memory is arrays of fixed size: there is no heap.
-const MARK: u8 = 37;
+const MARK: u8 = b'%';
 // The mark and its line feed.
 const MARK_LEN: usize = 2;
 
@@ -22,7 +22,7 @@ const INPUT: usize = 262144;
 // No case takes or prints more.
 const MOST: usize = 65536;
 
-// Here and below the memory is lent as arrays: only their length is asked for then.
+// Here and below the memory is lent as arrays, one by one as C does: only their length is asked for then.
 fn print(
     rt: &impl Print,
     kind: Kind,

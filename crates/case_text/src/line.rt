@@ -50,7 +50,7 @@ pub enum Line {
     Call,
 }
 
-// ---- lines in the text
+// ---- lines in the text. Text and place stay two: the place is held from turn to turn in a Copy value, the text is lent at each.
 
 // The line that begins at a place, without its line feed.
 #[tactic(auto, unfolding(crate::specs::Line::line_at))]

@@ -102,7 +102,7 @@ fn digit(c: u8) -> u8
     }
 }
 
-// The byte of two digits. What is no digit counts as 0.
+// The byte of two digits. What is no digit counts as 0. std has none for two digits.
 #[tactic(auto, unfolding(crate::specs::Number::byte_of))]
 fn byte(high: u8, low: u8) -> u8
     ensures { result ≡ byte_of high low }
@@ -114,7 +114,7 @@ fn write_pairs(s: &[u8], room: &mut [u8])
     requires { length s.now / 2 ≤ length room.old }
     ensures { room.new ≡ pairs_over s.now room.old }
 {
-    // Pairs by chunks_exact beside the places of the room would take both digits by index too.
+    // By number: of a room that `iter_mut` has gone over a proof knows the length alone.
     for i in 0..s.len() / 2 {
         room[i] = byte(s[2 * i], s[2 * i + 1]);
     }

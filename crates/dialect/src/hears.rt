@@ -13,6 +13,7 @@ use trace_turns::place::{Mode, Place};
 use trace_words::heard::Heard;
 
 // Where a line is taken, the next one begins at next. Not a Result: a call that stops and one that waits are no failures of this turn.
+// And an enum: no closure may be handed out. n is a count and no slice, which would keep the reply's memory lent.
 #[derive(Clone, Copy)]
 pub enum Hears {
     // A reply to the action that is out; its bytes are the first n of the reply's memory.

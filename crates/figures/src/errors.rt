@@ -29,7 +29,7 @@ pub(crate) fn all(rt: &impl Print) -> io::Result<()> {
 
 fn error(rt: &impl Print, name: &str, e: FlashError) -> io::Result<()> {
     line::name(rt, name)?;
-    line::decimal(rt, e.number() as u64)?;
+    line::decimal(rt, u64::from(e.number()))?;
     kind(rt, e.nor_flash_kind())?;
     line::end(rt)
 }

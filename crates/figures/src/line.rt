@@ -33,8 +33,8 @@ pub(crate) fn end(rt: &impl Print) -> io::Result<()> {
 // A row of a wait table: first delay, poll delay, limit.
 pub(crate) fn wait(rt: &impl Print, text: &str, row: Timings) -> io::Result<()> {
     name(rt, text)?;
-    decimal(rt, row.initial_us as u64)?;
-    decimal(rt, row.poll_us as u64)?;
-    decimal(rt, row.timeout_us as u64)?;
+    decimal(rt, u64::from(row.initial_us))?;
+    decimal(rt, u64::from(row.poll_us))?;
+    decimal(rt, u64::from(row.timeout_us))?;
     end(rt)
 }

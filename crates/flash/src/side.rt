@@ -10,6 +10,7 @@ use machine::part::{FlashOf, Part};
 use nand_driver::part::{Nand, SpiNandFlash};
 use nor_driver::part::{Nor, SpiNorFlash};
 
+// One trait and no two Froms: its ghost members name the case.
 pub trait Side: Part {
     ghost flash_as: { machine.Flash Self.Setup Self.Phase → Flash };
 

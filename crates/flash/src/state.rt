@@ -13,6 +13,6 @@ pub enum Flash {
 pub struct Stepped {
     pub flash: Flash,
     pub given: Given,
-    // How many bytes the last call begun has put into the caller's buffer.
+    // How many bytes the last call begun has put into the caller's buffer, which is lent anew at each step.
     pub delivered: usize,
 }

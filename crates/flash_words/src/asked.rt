@@ -12,6 +12,7 @@ pub struct Asked {
 }
 
 // Nothing is one of four arms that every reader takes apart: an Option around the other three would only add a match.
+// And an enum: no closure may be handed out. n is a count and no slice, which would keep the reply's memory lent.
 #[derive(Clone, Copy)]
 pub enum Ask {
     Nothing,

@@ -38,7 +38,7 @@ fn ended(out: &mut Writer, answer: Answer)
 fn failed(out: &mut Writer, error: FlashError)
     ensures { Appends (failed_lines error) out.old out.new }
 {
-    out.end(error.number() as u32);
+    out.end(u32::from(error.number()));
     print::error_values(out, error)
 }
 

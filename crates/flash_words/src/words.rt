@@ -60,6 +60,7 @@ pub trait Words: Copy {
 pub fn named<N: Copy>(names: &[(&[u8], N)], word: &[u8]) -> Option<N>
     ensures { result ≡ named_in names.now word.now }
 {
+    // By `find` it did not prove: of a closure over N nothing is known behind the call.
     for (text, name) in names {
         if *text == word {
             return Some(*name);

@@ -11,7 +11,7 @@ lending f loan = f loan.scratch.now loan.buffer.now loan.«data».now
 abbrev pub returning : {A : Type 0} → (List ℕ → List ℕ → A) → Loan → A
 returning f loan = f loan.scratch.now loan.buffer.now
 
--- the same memory is lent, with the same data
+-- the same memory is lent, with the same data: of before and after, which no invariant of one value says
 pub record SameLoan (old new : Loan) : Type 0 where
   pub scratch : new.scratch.ghost_name ≡ old.scratch.ghost_name
   pub buffer : new.buffer.ghost_name ≡ old.buffer.ghost_name

@@ -71,7 +71,7 @@ fn sink_of(transfer: Transfer) -> Sink
     }
 }
 
-// The number that a data reply comes to.
+// The number that a data reply comes to: one for all three, and the phase knows what it says.
 fn value_of(sink: Sink, s: &[u8], data: &[u8]) -> u64
     ensures { result ≡ value_of sink s.now «data».now }
 {
@@ -138,7 +138,7 @@ pub fn exchange(frame: Frame, reply: Reply, s: &[u8], lent: &mut Loan) -> Exchan
     }
 }
 
-// How many bytes of the caller's buffer are delivered after a reply that fits, where `before` were.
+// How many bytes of the caller's buffer are delivered after a reply that fits, where `before` were. Lengths alone: no byte is looked at.
 #[tactic(auto, unfolding(crate::specs::Frame::delivered_by))]
 pub fn delivered_by(
     frame: Frame,

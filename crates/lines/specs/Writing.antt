@@ -6,7 +6,7 @@ use Rattle.lines.specs.declared.text.Writer.{Writer}
 abbrev pub text_in : Writer → Text
 text_in writer = text_of writer.room.now writer.len
 
--- the writer still writes into the same slice
+-- the writer still writes into the same slice: of before and after, which no invariant of one value says
 abbrev pub SameRoom : Writer → Writer → Type 0
 SameRoom old new = new.room.ghost_name ≡ old.room.ghost_name
 

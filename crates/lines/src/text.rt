@@ -13,7 +13,7 @@ pub const NEWLINE: u8 = b'\n';
 // As many digits as a number of 64 bits has.
 const DIGITS: usize = 20;
 
-// A slice, and how much of it the text so far takes.
+// A slice, and how much of it the text so far takes. No String: there is no heap.
 #[derive(Drop)]
 pub struct Writer<'a> {
     pub room: &'a mut [u8],
@@ -82,6 +82,7 @@ impl<'a> Writer<'a> {
     pub fn decimal(&mut self, n: u64)
         ensures { Appends (decimal_of n) self.old self.new }
     {
+        // As many as there can be: there is no heap.
         let mut digits = [0u8; DIGITS];
         let mut left = n;
         // By place, from the last digit on: how many there are shows only at the first.

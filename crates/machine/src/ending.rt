@@ -11,7 +11,7 @@ impl<A> Given<A> {
     {
         match self {
             Given::Act(_) | Given::Ended(_) => 0,
-            Given::Failed(error) | Given::Refused(error) => error.number() as u32,
+            Given::Failed(error) | Given::Refused(error) => u32::from(error.number()),
         }
     }
 }

@@ -17,7 +17,7 @@ pub struct Flash<S, P> {
     pub setup: S,
     // The last construction begun has succeeded. No Option of the setup: a construction works on one before it is built.
     pub built: bool,
-    // Bytes that the last call begun has put into the caller's buffer.
+    // Bytes that the last call begun has put into the caller's buffer: a count, as the buffer is lent anew at each step.
     pub delivered: usize,
     pub running: Option<Job<P>>,
 }

@@ -53,7 +53,7 @@ pub enum Opening<S, P, A> {
 }
 
 impl<S, P, A> Opening<S, P, A> {
-    // A call that takes nothing.
+    // A call that takes nothing. These three are the three variants of what a call takes.
     pub fn plain(then: Then<S, P, A>) -> Opening<S, P, A>
         ensures { result ≡ plain «then» }
     {

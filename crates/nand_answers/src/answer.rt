@@ -20,6 +20,7 @@ pub enum Answer {
     Config(SpiNandConfig),
 }
 
+// Here and below functions and no From: both types are another crate's.
 fn id_numbers(id: NandJedecId) -> [u64; 2]
     ensures { result ≡ id_values id }
 {

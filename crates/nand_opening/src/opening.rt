@@ -65,7 +65,7 @@ fn load_program_data(setup: Setup, column: usize, len: usize) -> Opening
     )
 }
 
-// Each call, with what is lent of these lengths.
+// Each call, with what is lent of these lengths: one arm a call.
 #[tactic(auto, unfolding(crate::specs::Opening::opening_of))]
 pub fn opening_of(setup: Setup, call: Call, lengths: Lengths) -> Opening
     ensures { result ≡ opening_of setup call lengths.buffer lengths.«data» }

@@ -73,7 +73,7 @@ pub fn read_piece(setup: Setup, span: Span<usize>) -> Then
     )
 }
 
-// write_page's comparison, or 0 where the bytes differ.
+// write_page's comparison, or 0 where the bytes differ: what a transfer gives is a number, also here.
 #[tactic(auto, unfolding(crate::specs::Cache::compared_then))]
 pub fn compared(setup: Setup, same: u64) -> Then
     ensures { result ≡ compared_then setup same }

@@ -6,6 +6,7 @@ ghost use Rattle.nand_phases.specs.Verdict.{asks_verdict};
 use spi_flash::range::Span;
 
 // Here and below `bring_up` tells a part of bring_up from a call of its own: the same value is kept in both, so it is no Option.
+// `Reset`, and below `Call`, is a call of its own, which the None of an Option would not say.
 #[derive(Clone, Copy)]
 pub enum ResetFor {
     Reset,
@@ -23,7 +24,7 @@ pub enum RegisterFor {
     Unprotect { before: u8, bring_up: bool },
 }
 
-// What is_bad_block is for. Here and below `Call` is a call of its own, which the None of an Option would not say.
+// What is_bad_block is for.
 #[derive(Clone, Copy)]
 pub enum MarkerFor {
     Call,

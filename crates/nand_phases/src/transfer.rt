@@ -102,7 +102,7 @@ pub fn in_range(geometry: NandGeometry, offset: usize, length: usize) -> bool
 pub fn place(span: Span<usize>) -> usize
     ensures { result ≡ place_of span.offset span.done }
 {
-    std::num::wrapping_add_usize(span.offset, span.done)
+    span.offset.wrapping_add(span.done)
 }
 
 // The page of a byte; no construction takes a page of 0 bytes.
@@ -144,7 +144,7 @@ pub fn chunk(geometry: NandGeometry, span: Span<usize>) -> usize
     range::piece(page_rest(geometry, span), span.len, span.done)
 }
 
-// Where the call stands after that piece.
+// Where the call stands after that piece. What it shares with the NOR's is `range::past_piece`.
 #[tactic(auto, unfolding(crate::specs::Transfer::chunk_of))]
 pub fn past_chunk(geometry: NandGeometry, s: Span<usize>) -> Span<usize>
     ensures { result ≡ span s.offset s.len (s.done + chunk_of geometry s.offset s.len s.done) }

@@ -80,7 +80,7 @@ const NAMES: [(&[u8], Name); 27] = [
     (b"mark_bad_block", Name::MarkBadBlock),
 ];
 
-// ---- settings
+// ---- settings. Functions and no From: both types are another crate's.
 
 fn quad_config(quad: Quad) -> NandQuadConfig
     ensures { result ≡ quad_config quad }

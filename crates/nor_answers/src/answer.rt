@@ -18,6 +18,7 @@ pub enum Answer {
     Config(SpiNorConfig),
 }
 
+// Here and below functions and no From: both types are another crate's.
 fn id_numbers(id: NorJedecId) -> [u64; 3]
     ensures { result ≡ id_values id }
 {

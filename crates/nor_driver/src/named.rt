@@ -1,4 +1,4 @@
-// The calls under the Rust's names, a line each: what they do alike is begin_lent. What a call does not take has no length.
+// The calls under the Rust's names, a line each: what they do alike is `machine::call::begin`. What a call does not take has no length.
 // Functions, as a type of another crate takes no methods.
 ghost use Rattle.std.specs.Prelude.{◌≡◌, length};
 ghost use Rattle.nor_driver.specs.Call.{begin_of};

@@ -49,7 +49,7 @@ fn after(setup: Setup, phase: Phase, v: u64) -> Then
     }
 }
 
-// What follows a transfer's outcome. A bus error ends the call.
+// What follows a transfer's outcome. A bus error ends the call. One line in each driver, over its own `after`.
 #[tactic(auto, unfolding(crate::specs::Next::next_of))]
 pub fn next(setup: Setup, phase: Phase, outcome: Outcome) -> Then
     ensures { result ≡ next_of setup phase outcome }

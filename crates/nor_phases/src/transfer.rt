@@ -14,12 +14,12 @@ use spi_nor::config::NorDeviceInfo;
 use spi_nor::opcode::Operation;
 use spi_nor::{command, opcode, status};
 
-// `offset + done as u32`
+// `offset + done as u32`; the NAND's offset is a usize, as in the Rust.
 #[tactic(auto, unfolding(crate::specs::Transfer::place_of))]
 pub fn place(span: Span<u32>) -> u32
     ensures { result ≡ place_of span.offset span.done }
 {
-    std::num::wrapping_add_u32(span.offset, (span.done % 4294967296) as u32)
+    span.offset.wrapping_add((span.done % 4294967296) as u32)
 }
 
 // The bytes of the next piece of `read`.
@@ -30,7 +30,7 @@ pub fn chunk(span: Span<u32>) -> usize
     range::piece(opcode::MAX_BULK_LEN, span.len, span.done)
 }
 
-// Where the call stands after that piece.
+// Where the call stands after that piece. What it shares with a page's and the NAND's is `range::past_piece`.
 #[tactic(auto, unfolding(crate::specs::Transfer::chunk_of))]
 pub fn past_chunk(s: Span<u32>) -> Span<u32>
     ensures { result ≡ span s.offset s.len (s.done + chunk_of s.len s.done) }
@@ -79,6 +79,7 @@ pub fn read_transfer(setup: Setup, offset: u32, len: usize, sink: Sink) -> Trans
     }
 }
 
+// The data by place and length, as in `Payload`.
 #[tactic(auto, unfolding(crate::specs::Transfer::program_transfer))]
 fn program_transfer(setup: Setup, offset: u32, from: usize, len: usize) -> Transfer
     ensures { result ≡ program_transfer setup offset from len }
@@ -172,7 +173,7 @@ pub fn unit_size(device: NorDeviceInfo, kind: EraseKind) -> usize
     }
 }
 
-// erase_step: a whole block where one fits, else a sector
+// erase_step: a whole block where one fits, else a sector. Here and in `erase` address and end stay two: each is compared or passed on at once.
 #[tactic(auto, unfolding(crate::specs::Transfer::step_kind, crate::specs::Transfer::multiple_of))]
 pub fn step_kind(device: NorDeviceInfo, address: u32, end: u32) -> EraseKind
     ensures { result ≡ step_kind device address end }
@@ -194,5 +195,5 @@ pub fn after_unit(device: NorDeviceInfo, kind: EraseKind, address: u32) -> u32
     ensures { result ≡ after_unit device kind address }
 {
     let size = unit_size(device, kind);
-    std::num::wrapping_add_u32(address, (size % 4294967296) as u32)
+    address.wrapping_add((size % 4294967296) as u32)
 }

@@ -6,6 +6,7 @@ use lines::text::Writer;
 use nor_driver::part::Nor;
 use nor_tape::program;
 use qspi::bytes;
+use qspi::command::SCRATCH_LEN;
 use replay::call;
 use std::io;
 
@@ -18,7 +19,7 @@ fn main(rt: HostRuntime) -> io::Result<()> {
     let n = streams::read_full(&rt, &mut input)?;
     let tape = bytes::delivered(&input, n);
     let mut lent = Loan {
-        scratch: &mut [0u8; 264],
+        scratch: &mut [0u8; SCRATCH_LEN],
         buffer: &mut [],
         data: &[],
     };

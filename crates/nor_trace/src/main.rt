@@ -1,4 +1,4 @@
-// Prints the trace of the NOR case on standard input.
+// Prints the trace of the NOR case on standard input: a program for each driver, one line long.
 #![tactic(auto)]
 
 use flash_calls::call::Kind;

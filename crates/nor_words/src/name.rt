@@ -64,7 +64,7 @@ const NAMES: [(&[u8], Name); 20] = [
     (b"erase_block", Name::EraseBlock),
 ];
 
-// ---- settings
+// ---- settings. Functions and no From: both types are another crate's.
 
 fn quad_config(quad: Quad) -> NorQuadConfig
     ensures { result ≡ quad_config quad }

@@ -2,7 +2,8 @@
 ghost use Rattle.std.specs.Prelude.{◌≡◌};
 ghost use Rattle.qspi.specs.Bus.{awaits_of, fits_of, on_bus};
 
-// The bytes of an action: a part of the scratch or of the caller's data. A struct of from and len would only be one name more.
+// The bytes of an action: a part of the scratch or of the caller's data, by place and length: an action is held between two steps, and
+// what it lies in is lent anew at each.
 #[derive(Clone, Copy)]
 pub enum Part {
     Scratch { from: usize, len: usize },

@@ -19,7 +19,7 @@ pub const MARKER: u8 = 0x00;
 // What the low seven bytes of a u64 stay below.
 const TOP_BYTE: u64 = 1 << 56;
 
-// len bytes from a place, or none where they run past the end.
+// len bytes from a place, or none where they run past the end: a `Part`'s two numbers.
 pub fn part(s: &[u8], from: usize, len: usize) -> &[u8]
     ensures { result.now ≡ part_of s.now from len }
 {
@@ -45,7 +45,7 @@ pub fn delivered(buffer: &[u8], n: usize) -> &[u8]
     buffer.get(..n).unwrap_or(buffer)
 }
 
-// A number of up to eight bytes, highest first.
+// A number of up to eight bytes, highest first. `from_be_bytes` takes eight and no fewer.
 pub fn number(s: &[u8]) -> u64
     ensures { result ≡ number_of s.now }
 {
@@ -53,7 +53,7 @@ pub fn number(s: &[u8]) -> u64
         .fold(0, |value, byte| value % TOP_BYTE * 256 + u64::from(*byte))
 }
 
-// The byte that the number of a reply of one byte is.
+// The byte that the number of a reply of one byte is: both drivers' `buffer[0]`.
 pub fn byte(value: u64) -> u8
     ensures { result ≡ byte_of value }
 {
@@ -94,7 +94,7 @@ pub fn put_filler(scratch: &mut [u8], n: usize)
     }
 }
 
-// Puts the marker into the scratch. A scratch that is too short keeps every byte.
+// Puts the marker into the scratch. A scratch that is too short keeps every byte. One place and no slice, unlike the filler.
 #[tactic(auto, unfolding(crate::specs::Bytes::with_marker))]
 pub fn put_marker(scratch: &mut [u8])
     ensures { scratch.new ≡ with_marker scratch.old }
@@ -104,7 +104,7 @@ pub fn put_marker(scratch: &mut [u8])
     }
 }
 
-// Where a delivery of len bytes at a place ends. One that does not fit leaves what was delivered before.
+// Where a delivery of len bytes at a place ends. One that does not fit leaves what was delivered before. Lengths alone: no byte is looked at.
 pub fn end_of(at: usize, len: usize, buffer_len: usize, before: usize) -> usize
     ensures { result ≡ end_of at len buffer_len before }
 {

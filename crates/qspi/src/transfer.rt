@@ -26,7 +26,8 @@ pub enum Sink {
     Compare(usize),
 }
 
-// What follows a command while select is low. The quad calls have the command with their data.
+// What follows a command while select is low. The quad calls have the command with their data. None is one of the arms that each reader
+// takes apart.
 #[derive(Clone, Copy)]
 pub enum Body {
     None,

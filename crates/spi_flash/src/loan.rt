@@ -11,6 +11,7 @@ use qspi::bus::Reply;
 use qspi::command::SCRATCH_LEN;
 
 // What a call takes beside the scratch, with its length at the beginning: later steps are held to that length alone.
+// Nothing is one of the arms that each reader takes apart, and no None around the other two.
 #[derive(Clone, Copy)]
 pub enum Takes {
     Nothing,

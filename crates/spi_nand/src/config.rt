@@ -142,6 +142,7 @@ impl NandGeometry {
     pub fn from_jedec(id: NandJedecId) -> Self
         ensures { result ≡ from_jedec id }
     {
+        // `find` gives the pair, which is taken apart behind it all the same.
         for (known, geometry) in KNOWN_NAND_DEVICES {
             if known == id {
                 return geometry;

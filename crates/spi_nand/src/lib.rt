@@ -1,4 +1,4 @@
-// The SPI NAND driver, under the Rust's names.
+// The SPI NAND part: its opcodes, registers, geometries and commands.
 #![tactic(auto)]
 
 pub mod command;

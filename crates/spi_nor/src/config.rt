@@ -100,6 +100,7 @@ impl NorDeviceInfo {
     pub fn from_jedec(id: NorJedecId) -> Self
         ensures { result ≡ from_jedec id }
     {
+        // `find` gives the pair, which is taken apart behind it all the same.
         for (known, info) in KNOWN_NOR_DEVICES {
             if known == id {
                 return info;

@@ -52,7 +52,7 @@ pub fn start(tape: &[u8]) -> Option<usize>
     well_formed(tape).then_some(pointer(tape))
 }
 
-// The same with 0 for none.
+// The same with 0 for none: it stands as it did, a function that cannot fail.
 #[tactic(auto, unfolding(crate::specs::Judge::first_of))]
 pub fn first(tape: &[u8]) -> usize
     ensures { result ≡ first_of tape.now }

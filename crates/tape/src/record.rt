@@ -36,6 +36,7 @@ pub enum Record {
     BusError(u8),
 }
 
+// The position stands in both cases: without a record the reader stays.
 #[derive(Clone, Copy)]
 pub struct Taken {
     pub given: Option<Record>,
@@ -82,7 +83,7 @@ impl Record {
         }
     }
 
-    // The reply that the record holds.
+    // The reply that the record holds. No From: the reply's bytes are given beside it.
     pub fn reply(self) -> Reply
         ensures { result ≡ reply_of (Some self) }
     {
@@ -94,7 +95,7 @@ impl Record {
     }
 }
 
-// The number of an answer: a record's kind, or the refusal's.
+// The number of an answer: a record's kind, or the refusal's. Like the length below it says a number of None too.
 pub fn number(answer: Option<Record>) -> u8
     ensures { result ≡ number_of_record answer }
 {

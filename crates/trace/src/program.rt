@@ -21,7 +21,7 @@ const REPLY: usize = 65536;
 // its command, and the line feed.
 const OUT: usize = 196700;
 
-// Each turn is printed before the next one.
+// Each turn is printed before the next one, from a writer of its own; `trace_case::case` puts all into one.
 fn print_case(
     rt: &impl Print,
     kind: Kind,

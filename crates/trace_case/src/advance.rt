@@ -45,7 +45,7 @@ fn traced_by(turn: Turn, stepped: Stepped) -> Trace
     }
 }
 
-// One turn, which prints behind what is written. A trace that is over stays as it is.
+// One turn, which prints behind what is written. A trace that is over stays as it is. The memory is lent as C lends it, one by one.
 pub fn advance(
     trace: Trace,
     text: &[u8],

@@ -17,6 +17,7 @@ fn turns(kind: Kind, text: &[u8], room: &mut [u8], reply: &mut [u8], out: &mut W
     ensures room_after { room.new ≡ (case_behind kind text.now room.old reply.old (text_in out.old)).room }
     ensures reply_after { reply.new ≡ (case_behind kind text.now room.old reply.old (text_in out.old)).reply }
 {
+    // The least scratch that a driver takes, of fixed size as all memory here.
     let mut scratch = [0u8; SCRATCH_LEN];
     let mut trace = advance::start(kind);
     let most = budget::budget(text.len(), room.len());

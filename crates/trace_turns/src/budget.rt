@@ -9,8 +9,8 @@ use trace_words::{print, request};
 // one that does: with the end of a call and a turn that finds no reply these are fewer than 16. Two turns are left for the end.
 const LINE_TURNS: usize = 16;
 
-#[tactic(auto, unfolding(crate::specs::Budget::budget_of))]
 // More turns than any text of this length takes: a line has one character at least, and brings one buffer at most.
+#[tactic(auto, unfolding(crate::specs::Budget::budget_of))]
 pub fn budget(text_len: usize, room_len: usize) -> usize
     ensures { result ≡ budget_of text_len room_len }
 {

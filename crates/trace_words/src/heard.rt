@@ -23,7 +23,7 @@ pub fn is_call(line: Line) -> bool
     matches!(line, Line::Call)
 }
 
-// A call is taken for a good one: its line has to be looked at first.
+// A call is taken for a good one: its line has to be looked at first. The name says more than a From would.
 pub fn heard_in(line: Line) -> Heard
     ensures { result ≡ heard_in line }
 {

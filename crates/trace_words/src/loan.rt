@@ -9,6 +9,8 @@ use spi_flash::loan::Takes;
 // What the caller's buffer holds before a call.
 const FILL: u8 = 0xCC;
 
+// This and the next each ask for another variant. What the call takes and the room stay two: the one is held from turn to turn in a Copy
+// value, the other is lent at each.
 pub fn buffer(takes: Takes, room: &[u8]) -> &[u8]
     ensures { result.now ≡ buffer_of takes room.now }
 {

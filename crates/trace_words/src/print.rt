@@ -71,7 +71,7 @@ fn solid(out: &mut Writer, s: &[u8])
     }
 }
 
-// Before the first piece B, and a blank where a byte follows.
+// Before the first piece B, and a blank where a byte follows: a place and a length of what has been printed, and no bytes.
 #[tactic(auto, using(lines::proofs::Appending::appended_behind), unfolding(lines::specs::Text::appended, crate::specs::Print::head_of))]
 fn head(out: &mut Writer, from: usize, len: usize)
     ensures { Appends (head_of from len) out.old out.new }

@@ -94,6 +94,7 @@ fn plain(line: &[u8]) -> Option<Request>
     })
 }
 
+// Here and below the bound is a clause and no invariant of Request, which would hold it beside the numbers.
 #[tactic(auto, unfolding(crate::specs::Request::one_number))]
 fn one(line: &[u8], most: u64) -> Option<Request>
     ensures value { result ≡ one_number line.now most }
