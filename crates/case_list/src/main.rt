@@ -49,6 +49,7 @@ fn kind_behind(kind: Kind, len: usize) -> Kind {
     if len == 0 { Kind::Nand } else { kind }
 }
 
+// By hand: `split` at the mark would leave a line feed before each case but the first, and one piece more behind the last.
 fn print_cases<R: Input + Print>(rt: &R, input: &mut [u8; INPUT]) -> io::Result<()> {
     let n = streams::read_full(rt, input)?;
     let mut left = bytes::delivered(input, n);

@@ -1,5 +1,6 @@
 -- Digits one by one, and the bytes that pairs of them write.
-use Rattle.std.proofs.Common.{ℕ, zero, suc, ◌&&◌, Bool, true, false, Some, None, take, ◌+◌, ◌-◌, ◌*◌, ◌/◌, ◌≤◌, ◌<◌, ◌≡◌, refl, ap₂, sym, ◌∙◌, List, [], ◌∷◌, arith, zero-add, length, set, get_or, ltb, eqb}
+use Rattle.std.proofs.Common.{ℕ, zero, suc, Bool, true, false, Some, None, take, ◌+◌, ◌-◌, ◌*◌, ◌/◌, ◌≤◌, ◌<◌, ◌≡◌, refl, ap₂, sym, ◌∙◌, List, [], ◌∷◌, arith, zero-add, length, set, get_or, ltb, eqb}
+use Rattle.std.proofs.Math.Bool.{and-false}
 use Rattle.std.proofs.Math.Seq.{paste, paste-suc, take-length}
 use Rattle.std.proofs.lemmas.Int.Digits.{digits_value_more}
 use Rattle.std.proofs.lemmas.List.Folds.{list_all_at, list_all_more}
@@ -58,14 +59,10 @@ all-ascii : (s : List ℕ) → IsAscii s → true ≡ list_all is_ascii s
 all-ascii [] h = refl
 all-ascii (c ∷ cs) h = rw (lt-ltb c 128 (h 0)) (all-ascii cs (λ i. h (suc i)))
 
-and-false : (b : Bool) → false ≡ (b && false)
-and-false true = refl
-and-false false = refl
-
 not-ascii : (s : List ℕ) (i : ℕ) → 128 ≤ get_or s i 0 → false ≡ list_all is_ascii s
 not-ascii [] i h = absurd (omega arith)
 not-ascii (c ∷ cs) zero h = rw (le-ltb c 128 h) refl
-not-ascii (c ∷ cs) (suc i) h = rw (← not-ascii cs i h) (and-false (is_ascii c))
+not-ascii (c ∷ cs) (suc i) h = rw (← not-ascii cs i h) (sym (and-false (is_ascii c)))
 
 pub ascii_is : (r : Bool) (s : List ℕ) → MatchBool r (IsAscii s) (IsNotAscii s) → r ≡ list_all is_ascii s
 ascii_is true s h = all-ascii s h

@@ -16,6 +16,7 @@ const WORDS_NONE: usize = 2;
 
 const WORDS_FOUR: usize = 5;
 
+// By name and no array: the definitions take each by its name, and of a list by place they would want its length too.
 #[derive(Clone, Copy)]
 pub struct Four {
     pub first: u64,
@@ -24,7 +25,8 @@ pub struct Four {
     pub fourth: u64,
 }
 
-// The quad setting: four numbers as the drivers take them.
+// The quad setting: four numbers as the drivers take them. A type beside the drivers' own two: what reads a line is one for both, and knows
+// neither driver.
 #[derive(Clone, Copy)]
 pub struct Quad {
     pub tclqv_ns: u32,
@@ -50,7 +52,8 @@ pub enum Line {
     Call,
 }
 
-// ---- lines in the text. Text and place stay two: the place is held from turn to turn in a Copy value, the text is lent at each.
+// ---- lines in the text. Text and place stay two, here and where lines are read: a reader of both, as the tape's, would be made anew for
+// each line and read once.
 
 // The line that begins at a place, without its line feed.
 #[tactic(auto, unfolding(crate::specs::Line::line_at))]
@@ -100,30 +103,21 @@ pub fn number_at(text: &[u8], at: usize) -> usize
 fn comment(line: &[u8]) -> Option<Line>
     ensures { result ≡ comment_of line.now }
 {
-    if line.is_ascii() {
-        return Some(Line::Passed);
-    }
-    None
+    line.is_ascii().then_some(Line::Passed)
 }
 
 #[tactic(auto, unfolding(crate::specs::Line::done_of))]
 fn done(line: &[u8]) -> Option<Line>
     ensures { result ≡ done_of line.now }
 {
-    if line.len() == 1 {
-        return Some(Line::Done);
-    }
-    None
+    (line.len() == 1).then_some(Line::Done)
 }
 
 #[tactic(auto, unfolding(crate::specs::Line::data_of))]
 fn data(line: &[u8]) -> Option<Line>
     ensures { result ≡ data_of line.now }
 {
-    if word::is_hex(word::behind(line, 1)) {
-        return Some(Line::Data);
-    }
-    None
+    word::is_hex(word::behind(line, 1)).then_some(Line::Data)
 }
 
 #[tactic(auto, unfolding(crate::specs::Line::error_of))]
@@ -153,9 +147,9 @@ fn four_numbers(line: &[u8]) -> Option<Four>
 fn setting_of(line: &[u8]) -> Option<Option<Four>>
     ensures { result ≡ setting_of line.now }
 {
-    match word::words(line) {
-        WORDS_NONE if word::word(line, 1) == b"none".as_slice() => Some(None),
-        WORDS_FOUR => Some(Some(four_numbers(line)?)),
+    match (word::words(line), word::word(line, 1)) {
+        (WORDS_NONE, b"none") => Some(None),
+        (WORDS_FOUR, _) => Some(Some(four_numbers(line)?)),
         _ => None,
     }
 }
@@ -197,17 +191,12 @@ fn own_setting(line: &[u8]) -> Option<Line>
 fn named(line: &[u8], own: &[u8]) -> Option<Line>
     ensures { result ≡ named_of line.now own.now }
 {
-    let name = word::word(line, 0);
-    if name == b"call".as_slice() {
-        return Some(Line::Call);
+    match word::word(line, 0) {
+        b"call" => Some(Line::Call),
+        b"quad" => quad_setting(line),
+        name if name == own => own_setting(line),
+        _ => None,
     }
-    if name == b"quad".as_slice() {
-        return quad_setting(line);
-    }
-    if name == own {
-        return own_setting(line);
-    }
-    None
 }
 
 // A line that follows no rule is none.

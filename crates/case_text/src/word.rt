@@ -53,7 +53,7 @@ pub fn last(line: &[u8]) -> &[u8]
 
 // ---- numbers and bytes
 
-// The number that digits write. One past 64 bits is none.
+// The number that digits write. One past 64 bits is none. By hand: from_str_radix of std takes a plus too, and text in place of bytes.
 #[tactic(auto, unfolding(crate::specs::Number::number_in))]
 fn in_radix(digits: &[u8], radix: u32) -> Option<u64>
     requires { (2 ≤ radix) × (radix ≤ 16) }
@@ -83,7 +83,7 @@ pub fn parsed(s: &[u8]) -> Option<u64>
     }
 }
 
-// An even number of hexadecimal digits, possibly none.
+// An even number of hexadecimal digits, possibly none. By % 2: with is_multiple_of of std its proof did not close.
 pub fn is_hex(s: &[u8]) -> bool
     ensures { result ≡ is_hex_of s.now }
 {
@@ -96,13 +96,11 @@ fn digit(c: u8) -> u8
     ensures value { result ≡ digit_or_zero c }
     ensures upper_bound { result < 16 }
 {
-    match char::from(c).to_digit(HEXADECIMAL) {
-        Some(value) => value as u8,
-        None => 0,
-    }
+    char::from(c).to_digit(HEXADECIMAL).unwrap_or(0) as u8
 }
 
-// The byte of two digits. What is no digit counts as 0. std has none for two digits.
+// The byte of two digits. What is no digit counts as 0. By hand: the kit's hex::decode_to_slice does not say what it leaves where a digit is
+// bad.
 #[tactic(auto, unfolding(crate::specs::Number::byte_of))]
 fn byte(high: u8, low: u8) -> u8
     ensures { result ≡ byte_of high low }
@@ -114,7 +112,7 @@ fn write_pairs(s: &[u8], room: &mut [u8])
     requires { length s.now / 2 ≤ length room.old }
     ensures { room.new ≡ pairs_over s.now room.old }
 {
-    // By number: of a room that `iter_mut` has gone over a proof knows the length alone.
+    // By number: the pairs would be zipped to the room's `iter_mut`, and behind an adapter of it nothing is known of the bytes.
     for i in 0..s.len() / 2 {
         room[i] = byte(s[2 * i], s[2 * i + 1]);
     }

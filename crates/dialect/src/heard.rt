@@ -1,4 +1,4 @@
-// What a line says where a reply is awaited.
+// What a line says where a reply is awaited. Text and place stay two, as in `case_text`.
 ghost use Rattle.std.specs.Prelude.{◌≡◌};
 ghost use Rattle.dialect.specs.Heard.{heard_of};
 

@@ -1,4 +1,4 @@
-// The settings for the next `new`. They tell whose words a case is written in.
+// The settings for the next `new`. They tell whose words a case is written in: a sum, as the Flash is.
 ghost use Rattle.std.specs.Prelude.{◌≡◌};
 ghost use Rattle.dialect.specs.Settings.{none_of, settled_by};
 

@@ -1,4 +1,4 @@
-// A line and a call in the words that the settings tell.
+// A line and a call in the words that the settings tell. Text and place stay two, as in `case_text`.
 ghost use Rattle.std.specs.Prelude.{◌≡◌};
 ghost use Rattle.dialect.specs.Words.{line_of, asked_of};
 

@@ -34,7 +34,7 @@ fn error(rt: &impl Print, name: &str, e: FlashError) -> io::Result<()> {
     line::end(rt)
 }
 
-// Words of this program's lines: a Display of the error's own would say them to all.
+// Words of this program's lines: the type is another crate's, where a Display would say them to all.
 fn kind(rt: &impl Print, k: NorFlashErrorKind) -> io::Result<()> {
     match k {
         NorFlashErrorKind::NotAligned => line::word(rt, "kind_not_aligned"),

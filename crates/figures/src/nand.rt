@@ -7,29 +7,26 @@ use std::io;
 
 // The known ids, then some that fall back: a W25N02KV's by its datasheet, another maker's, and zeros.
 pub(crate) fn ids(rt: &impl Print) -> io::Result<()> {
-    for (manufacturer, high, low) in [
-        (0xEF, 0xAA, 0x21),
-        (0xEF, 0xAB, 0x21),
-        (0xC8, 0xD1, 0x48),
-        (0xC8, 0xF1, 0x48),
-        (0xEF, 0xAA, 0x22),
-        (0xC8, 0xAA, 0x21),
-        (0x00, 0x00, 0x00),
+    for bytes in [
+        [0xEF, 0xAA, 0x21],
+        [0xEF, 0xAB, 0x21],
+        [0xC8, 0xD1, 0x48],
+        [0xC8, 0xF1, 0x48],
+        [0xEF, 0xAA, 0x22],
+        [0xC8, 0xAA, 0x21],
+        [0x00, 0x00, 0x00],
     ] {
-        id(rt, manufacturer, high, low)?;
+        id(rt, bytes)?;
     }
     Ok(())
 }
 
-fn id(rt: &impl Print, manufacturer: u8, high: u8, low: u8) -> io::Result<()> {
+fn id(rt: &impl Print, bytes: [u8; 3]) -> io::Result<()> {
     line::name(rt, "nand_id")?;
-    line::byte(rt, manufacturer)?;
-    line::byte(rt, high)?;
-    line::byte(rt, low)?;
-    geometry(
-        rt,
-        NandGeometry::from_jedec(NandJedecId::from_bytes([manufacturer, high, low])),
-    )?;
+    for b in bytes {
+        line::byte(rt, b)?;
+    }
+    geometry(rt, NandGeometry::from_jedec(NandJedecId::from_bytes(bytes)))?;
     line::end(rt)
 }
 
@@ -83,24 +80,20 @@ pub(crate) fn bounds(rt: &impl Print) -> io::Result<()> {
         (1, 0, 16_777_217, 1),
         (1, 0, usize::MAX, usize::MAX),
     ] {
-        bound(rt, page_size, oob_size, pages_per_block, block_count)?;
+        bound(
+            rt,
+            NandGeometry {
+                page_size,
+                oob_size,
+                pages_per_block,
+                block_count,
+            },
+        )?;
     }
     Ok(())
 }
 
-fn bound(
-    rt: &impl Print,
-    page_size: usize,
-    oob_size: usize,
-    pages_per_block: usize,
-    block_count: usize,
-) -> io::Result<()> {
-    let g = NandGeometry {
-        page_size,
-        oob_size,
-        pages_per_block,
-        block_count,
-    };
+fn bound(rt: &impl Print, g: NandGeometry) -> io::Result<()> {
     line::name(rt, "nand_in_bounds")?;
     geometry(rt, g)?;
     line::answer(rt, g.in_bounds())?;

@@ -18,24 +18,24 @@ pub(crate) fn ids(rt: &impl Print) -> io::Result<()> {
         (0xC2, 0x20, 0x19),
         (0x00, 0x00, 0x00),
     ] {
-        id(rt, manufacturer, memory_type, capacity)?;
+        id(
+            rt,
+            NorJedecId {
+                manufacturer,
+                memory_type,
+                capacity,
+            },
+        )?;
     }
     Ok(())
 }
 
-fn id(rt: &impl Print, manufacturer: u8, memory_type: u8, capacity: u8) -> io::Result<()> {
+fn id(rt: &impl Print, id: NorJedecId) -> io::Result<()> {
     line::name(rt, "nor_id")?;
-    line::byte(rt, manufacturer)?;
-    line::byte(rt, memory_type)?;
-    line::byte(rt, capacity)?;
-    device(
-        rt,
-        NorDeviceInfo::from_jedec(NorJedecId {
-            manufacturer,
-            memory_type,
-            capacity,
-        }),
-    )?;
+    line::byte(rt, id.manufacturer)?;
+    line::byte(rt, id.memory_type)?;
+    line::byte(rt, id.capacity)?;
+    device(rt, NorDeviceInfo::from_jedec(id))?;
     line::end(rt)
 }
 
@@ -93,24 +93,20 @@ pub(crate) fn bounds(rt: &impl Print) -> io::Result<()> {
         (16_777_216, 1, 16_777_216, 256),
         (16_777_216, 1, 16_777_217, 256),
     ] {
-        bound(rt, capacity, sector_size, block_size, page_size)?;
+        bound(
+            rt,
+            NorDeviceInfo {
+                capacity,
+                sector_size,
+                block_size,
+                page_size,
+            },
+        )?;
     }
     Ok(())
 }
 
-fn bound(
-    rt: &impl Print,
-    capacity: usize,
-    sector_size: usize,
-    block_size: usize,
-    page_size: usize,
-) -> io::Result<()> {
-    let d = NorDeviceInfo {
-        capacity,
-        sector_size,
-        block_size,
-        page_size,
-    };
+fn bound(rt: &impl Print, d: NorDeviceInfo) -> io::Result<()> {
     line::name(rt, "nor_in_bounds")?;
     device(rt, d)?;
     line::answer(rt, d.in_bounds())?;

@@ -1,4 +1,4 @@
-// Either driver's calls.
+// Either driver's calls. A sum and no dyn or type parameter: it is held by value, and what a trace promises is said of a Kind.
 #[derive(Clone, Copy)]
 pub enum Kind {
     Nor,

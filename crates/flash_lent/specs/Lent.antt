@@ -47,6 +47,6 @@ answered_over flash reply bytes (Takes.Data n) scratch room = data_over flash re
 -- a reply's bytes are the first of the reply's memory; a call that is stopped stays unfinished
 unfoldable pub asked_over : Stepped → Ask → List ℕ → List ℕ → List ℕ → AfterStep Stepped
 asked_over stepped Ask.Nothing scratch room reply = stepped_to stepped scratch room
-asked_over stepped (Ask.Begin call takes) scratch room reply = begun_over stepped.flash call takes scratch room
+asked_over stepped (Ask.Begin asked) scratch room reply = begun_over stepped.flash asked.call asked.takes scratch room
 asked_over stepped (Ask.Answer by n takes) scratch room reply = answered_over stepped.flash by (take n reply) takes scratch room
 asked_over stepped (Ask.Stop error) scratch room reply = stepped_to (refused_of stepped.flash error) scratch room

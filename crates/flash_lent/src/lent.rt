@@ -23,7 +23,8 @@ fn begin<'a>(flash: Flash, call: Call, takes: Takes, scratch: &'a [u8], room: &'
     drive::begin(flash, call, lengths)
 }
 
-// ---- a reply to the action that is out: three ways to lend, each with slices of its own
+// ---- a reply to the action that is out: three ways to lend, each with slices of its own. The memory is lent one by one, as C lends it,
+// and reply and bytes are two, as in the reply of the bus.
 
 // Makes the loan of three slices: where a struct is given a part of a slice itself, it is not known what comes back into the slice.
 fn step(
@@ -118,7 +119,7 @@ pub fn asked(
     let flash = stepped.flash;
     match ask {
         Ask::Nothing => stepped,
-        Ask::Begin { call, takes } => begin(flash, call, takes, scratch, room),
+        Ask::Begin(asked) => begin(flash, asked.call, asked.takes, scratch, room),
         Ask::Answer {
             reply: by,
             n,

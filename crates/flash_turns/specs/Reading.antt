@@ -32,7 +32,7 @@ called_to settings place ask room text = record { settings = settings; place = p
 -- "For each call: call and its name"; a line that follows no rule is bad
 abbrev pub called_at : Option Asked → Settings → Place → List ℕ → ℕ → List ℕ → Text → Called
 called_at (Some asked) settings place line next room out =
-    called_to settings (started_of asked.takes false next) (Ask.Begin asked.call asked.takes) (laid_of asked.takes line room)
+    called_to settings (started_of asked.takes false next) (Ask.Begin asked) (laid_of asked.takes line room)
     (appended (call_line (word_of 1 line)) out)
 called_at None settings place line next room out = called_to settings (in_mode place Mode.Bad) Ask.Nothing room out
 

@@ -11,6 +11,10 @@ use Rattle.flash_turns.specs.declared.state.Turn.{Turn}
 abbrev pub turn_to : Settings → Place → Ask → Turn
 turn_to settings place ask = record { settings = settings; place = place; ask = ask }
 
+-- the driver is not asked
+abbrev pub shown_turn : Settings → Place → Turn
+shown_turn settings place = turn_to settings place Ask.Nothing
+
 -- a call that is turned away before its first action has not begun
 abbrev pub begun_of : Given Answer → Bool
 begun_of (Given.Act action) = true
@@ -21,6 +25,6 @@ begun_of (Given.Refused error) = false
 -- once the driver has been asked it is known of a call whether it has begun
 unfoldable pub begun_in : Place → Ask → Given Answer → Place
 begun_in place Ask.Nothing given = place
-begun_in place (Ask.Begin call takes) given = started_of takes (begun_of given) place.at
+begun_in place (Ask.Begin asked) given = started_of asked.takes (begun_of given) place.at
 begun_in place (Ask.Answer reply n takes) given = place
 begun_in place (Ask.Stop error) given = place

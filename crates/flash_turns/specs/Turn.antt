@@ -15,9 +15,6 @@ use Rattle.flash_turns.specs.State.{turn_to}
 use Rattle.flash_turns.specs.declared.answering.Next.{Next}
 use Rattle.flash_turns.specs.declared.state.Turn.{Turn}
 
-abbrev pub shown_turn : Settings → Place → Turn
-shown_turn settings place = turn_to settings place Ask.Nothing
-
 abbrev pub next_turn : Settings → Next → Turn
 next_turn settings next = turn_to settings next.place next.ask
 

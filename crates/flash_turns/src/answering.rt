@@ -1,4 +1,4 @@
-// A turn that answers the action that is out.
+// A turn that answers the action that is out. Settings and place stay two, and the memory one by one, as in `turn`.
 ghost use Rattle.std.specs.Prelude.{◌≡◌};
 ghost use Rattle.flash_turns.specs.Answering.{heard_then, answered_to, answering_of};
 
@@ -9,6 +9,7 @@ use flash_calls::given::Given;
 use flash_words::asked::Ask;
 use trace_turns::place::Place;
 
+// A Turn without its settings, which no reply changes.
 #[derive(Clone, Copy)]
 pub struct Next {
     pub place: Place,

@@ -1,4 +1,4 @@
-// A turn that prints what the driver has given.
+// A turn that prints what the driver has given. The memory is lent one by one, as C lends it.
 ghost use Rattle.std.specs.Prelude.{◌≡◌};
 ghost use Rattle.lines.specs.Writing.{text_in, SameRoom};
 ghost use Rattle.trace_turns.specs.Show.{shown_to};

@@ -1,4 +1,4 @@
-// A turn that takes a line between two calls.
+// A turn that takes a line between two calls. Settings and place stay two, and the memory one by one, as in `turn`.
 ghost use Rattle.std.specs.Prelude.{◌≡◌};
 ghost use Rattle.lines.specs.Writing.{text_in, SameRoom};
 ghost use Rattle.flash_turns.specs.Reading.{called_to, called_of, reading_of};
@@ -21,21 +21,14 @@ fn called(settings: Settings, place: Place, text: &[u8], room: &mut [u8], out: &
 {
     let line = line::line_at(text, place.at);
     let Some(asked) = words::asked_by(line, settings, room.len()) else {
-        return Turn {
-            settings,
-            place: place.in_mode(Mode::Bad),
-            ask: Ask::Nothing,
-        };
+        return Turn::shown(settings, place.in_mode(Mode::Bad));
     };
     loan::lay(asked.takes, line, room);
     print::call(out, word::word(line, 1));
     Turn {
         settings,
         place: Place::started(asked.takes, false, line::next_line(text, place.at)),
-        ask: Ask::Begin {
-            call: asked.call,
-            takes: asked.takes,
-        },
+        ask: Ask::Begin(asked),
     }
 }
 
@@ -51,18 +44,13 @@ pub fn reading(
     ensures called { called_to result.settings result.place result.ask room.new (text_in out.new) ≡ reading_of settings place text.now room.old (text_in out.old) }
 {
     let Some(line) = words::line_of(text, place.at, settings) else {
-        return Turn {
-            settings,
-            place: place.in_mode(Mode::Bad),
-            ask: Ask::Nothing,
-        };
+        return Turn::shown(settings, place.in_mode(Mode::Bad));
     };
     if heard::is_call(line) {
         return called(settings, place, text, room, out);
     }
-    Turn {
-        settings: settings::after(settings, line),
-        place: between::between(place, line, line::next_line(text, place.at)),
-        ask: Ask::Nothing,
-    }
+    Turn::shown(
+        settings::after(settings, line),
+        between::between(place, line, line::next_line(text, place.at)),
+    )
 }

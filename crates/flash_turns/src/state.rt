@@ -1,6 +1,6 @@
 // Where a turn leaves a trace, and what it asks of the driver.
 ghost use Rattle.std.specs.Prelude.{◌≡◌};
-ghost use Rattle.flash_turns.specs.State.{begun_of, begun_in};
+ghost use Rattle.flash_turns.specs.State.{shown_turn, begun_of, begun_in};
 
 use dialect::settings::Settings;
 use flash_calls::given::Given;
@@ -13,6 +13,19 @@ pub struct Turn {
     pub settings: Settings,
     pub place: Place,
     pub ask: Ask,
+}
+
+impl Turn {
+    // The driver is not asked.
+    pub(crate) fn shown(settings: Settings, place: Place) -> Turn
+        ensures { result ≡ shown_turn settings place }
+    {
+        Turn {
+            settings,
+            place,
+            ask: Ask::Nothing,
+        }
+    }
 }
 
 // A call that is turned away before its first action has not begun.
@@ -28,7 +41,7 @@ pub fn begun_in(place: Place, ask: Ask, given: Given) -> Place
     ensures { result ≡ begun_in place ask given }
 {
     match ask {
-        Ask::Begin { takes, .. } => Place::started(takes, has_begun(given), place.at),
+        Ask::Begin(asked) => Place::started(asked.takes, has_begun(given), place.at),
         Ask::Nothing | Ask::Answer { .. } | Ask::Stop(_) => place,
     }
 }

@@ -1,28 +1,17 @@
-// Any turn of a trace.
+// Any turn of a trace. The settings and the place stay two: all turns but one change the place alone, and most take no settings. The memory
+// is lent one by one, as C lends it. What was given and the count stay two: the struct of both, Stepped, holds a driver, and no turn does.
 ghost use Rattle.std.specs.Prelude.{◌≡◌};
 ghost use Rattle.lines.specs.Writing.{text_in, SameRoom};
-ghost use Rattle.flash_turns.specs.Turn.{shown_turn, next_turn, taken_to, turn_of};
+ghost use Rattle.flash_turns.specs.Turn.{next_turn, taken_to, turn_of};
 
 use crate::answering::Next;
 use crate::state::Turn;
 use crate::{answering, giving, reading};
 use dialect::settings::Settings;
 use flash_calls::given::Given;
-use flash_words::asked::Ask;
 use lines::text::Writer;
 use trace_turns::place::{Mode, Place};
 use trace_turns::show;
-
-// The driver is not asked.
-fn shown(settings: Settings, place: Place) -> Turn
-    ensures { result ≡ shown_turn settings place }
-{
-    Turn {
-        settings,
-        place,
-        ask: Ask::Nothing,
-    }
-}
 
 fn asking(settings: Settings, next: Next) -> Turn
     ensures { result ≡ next_turn settings next }
@@ -35,7 +24,6 @@ fn asking(settings: Settings, next: Next) -> Turn
 }
 
 // One turn, from what the driver gave last and its count of bytes delivered. A trace that is over stays as it is.
-// The settings and the place stay two: most turns change one of them alone, and take no other. The memory is lent as C lends it.
 #[tactic(auto, unfolding(crate::specs::Turn::turn_of))]
 pub fn turn(
     settings: Settings,
@@ -53,7 +41,7 @@ pub fn turn(
 {
     match place.mode {
         Mode::Reading => reading::reading(settings, place, text, room, out),
-        Mode::Giving => shown(
+        Mode::Giving => Turn::shown(
             settings,
             giving::giving(place, given, count, scratch, room, out),
         ),
@@ -61,8 +49,8 @@ pub fn turn(
             settings,
             answering::answering(settings, place, given, text, room.len(), reply),
         ),
-        Mode::Showing(from) => shown(settings, show::showing(place, from, room, out)),
-        Mode::Bad => shown(settings, show::bad(place, text, out)),
-        Mode::Over => shown(settings, place),
+        Mode::Showing(from) => Turn::shown(settings, show::showing(place, from, room, out)),
+        Mode::Bad => Turn::shown(settings, show::bad(place, text, out)),
+        Mode::Over => Turn::shown(settings, place),
     }
 }

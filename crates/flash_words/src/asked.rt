@@ -17,10 +17,7 @@ pub struct Asked {
 pub enum Ask {
     Nothing,
     // A call, whose loan is laid into the room.
-    Begin {
-        call: Call,
-        takes: Takes,
-    },
+    Begin(Asked),
     // A reply to the action that is out; its bytes are the first n of the reply's memory.
     Answer {
         reply: Reply,

@@ -19,7 +19,7 @@ fn answer_values(out: &mut Writer, answer: Answer)
         return;
     }
     out.put(print::VALUES);
-    // By number: a driver gives its values one at a time, and there is no memory to list them in.
+    // By number: an answer gives its values one by one, and says beside them why there is no list.
     for i in 0..n {
         out.field(answer.value(i));
     }
@@ -42,7 +42,7 @@ fn failed(out: &mut Writer, error: FlashError)
     print::error_values(out, error)
 }
 
-// The line of an action; or the lines of the call's end, of which n bytes were delivered.
+// The line of an action; or the lines of the call's end, of which n bytes were delivered. The memory is lent one by one, as C lends it.
 #[tactic(auto, using(lines::proofs::Appending::appended_behind), unfolding(crate::specs::End::given_lines))]
 pub fn given_lines<'a>(
     out: &mut Writer,

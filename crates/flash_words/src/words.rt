@@ -10,6 +10,7 @@ use crate::asked::Asked;
 use case_text::line::{Four, Line, Quad};
 use case_text::word;
 use flash_calls::call::Call;
+use spi_flash::rows;
 use trace_words::request;
 use trace_words::request::Form;
 
@@ -42,10 +43,9 @@ pub trait Words: Copy {
     fn most(self) -> u64
         ensures { result ≡ most self };
 
-    // That call with its numbers, and the settings for a construction.
+    // That call with its numbers, and the settings for a construction. The numbers and no Request: what it lends is no part of a call.
     fn call(self, config: Self::Config, first: u64, second: u64) -> Call
-        requires { (first ≤ most self) × (second ≤ most self) }
-        ensures { result ≡ call self config first second };
+        ensures { (first ≤ most self) → (second ≤ most self) → result ≡ call self config first second };
 
     // The settings with another quad setting.
     fn with_quad(config: Self::Config, quad: Option<Quad>) -> Self::Config
@@ -57,16 +57,11 @@ pub trait Words: Copy {
 }
 
 // The name that is written so, in a table of the names as they are written.
+#[tactic(auto, using(crate::proofs::Named::first))]
 pub fn named<N: Copy>(names: &[(&[u8], N)], word: &[u8]) -> Option<N>
     ensures { result ≡ named_in names.now word.now }
 {
-    // By `find` it did not prove: of a closure over N nothing is known behind the call.
-    for (text, name) in names {
-        if *text == word {
-            return Some(*name);
-        }
-    }
-    None
+    rows::known(names, word)
 }
 
 // What a line between two calls makes of the settings.

@@ -53,6 +53,7 @@ fn next_stage(transfer: Transfer, stage: Stage) -> Option<Stage>
     }
 }
 
+// What reads nothing counts as a Number, which changes no buffer: an Option would only add a match where the sink is asked for.
 fn body_sink(body: Body) -> Sink
     ensures { result ≡ body_sink body }
 {

@@ -26,6 +26,7 @@ impl Lengths {
         Lengths::new(scratch, &[], &[])
     }
 
+    // Here the three slices become their lengths.
     pub fn new(scratch: &[u8], buffer: &[u8], data: &[u8]) -> Lengths
         ensures { result ≡ lengths_at (length scratch.now) (length buffer.now) (length «data».now) }
     {

@@ -1,5 +1,6 @@
 // Characters, bytes in hexadecimal and numbers in decimal, put into a slice one behind the other.
-// They are put by hand: `write!` says what it wrote only where it gives Ok, and nothing says that it does.
+// They are put by hand: `write!` says what it wrote only where it gives Ok, and nothing says that it does. The kit's hex writes upper case
+// only where it allocates, and from_digit of std lower case.
 ghost use Rattle.std.specs.Prelude.{◌≡◌, ◌∷◌, [], take};
 ghost use Rattle.lines.specs.Text.{text_of, digit_of, two_digits, hex_of, decimal_of};
 ghost use Rattle.lines.specs.Writing.{text_in, SameRoom, Appends};
@@ -10,10 +11,8 @@ pub const BLANK: u8 = b' ';
 
 pub const NEWLINE: u8 = b'\n';
 
-// As many digits as a number of 64 bits has.
-const DIGITS: usize = 20;
-
-// A slice, and how much of it the text so far takes. No String: there is no heap.
+// A slice, and how much of it the text so far takes. No String, as there is no heap, and no ArrayString of the kit, which holds its room:
+// this one is lent.
 #[derive(Drop)]
 pub struct Writer<'a> {
     pub room: &'a mut [u8],
@@ -79,21 +78,11 @@ impl<'a> Writer<'a> {
     }
 
     // The digits of a number.
+    #[tactic(auto, using(crate::proofs::Decimal::decimal_is))]
     pub fn decimal(&mut self, n: u64)
         ensures { Appends (decimal_of n) self.old self.new }
     {
-        // As many as there can be: there is no heap.
-        let mut digits = [0u8; DIGITS];
-        let mut left = n;
-        // By place, from the last digit on: how many there are shows only at the first.
-        for i in (0..DIGITS).rev() {
-            digits[i] = b'0' + (left % 10) as u8;
-            if left < 10 {
-                return self.put_all(&digits[i..]);
-            }
-            left /= 10;
-        }
-        self.put_all(&digits)
+        self.put_all(itoa::Buffer::new().format(n).as_bytes())
     }
 
     // The text so far.

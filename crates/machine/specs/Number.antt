@@ -1,17 +1,13 @@
 -- The number with which a step has ended the call (document 01's numbers: 0 is success).
-use Rattle.std.specs.Prelude.{ℕ, ◌≡◌, List}
+use Rattle.std.specs.Prelude.{ℕ, ◌≡◌, List, []}
 use Rattle.spi_flash.specs.Ending.{ending_in, number_in}
-use Rattle.spi_flash.specs.Error.{error_number}
 use Rattle.machine.specs.Shape.{given_as}
 use Rattle.machine.specs.declared.state.Given.{Given}
 
--- 0 also for an action, with which the call goes on
+-- the number of the call's ending, whose values are not looked at; 0 also for an action, with which the call goes on
 abbrev pub number_of : {A : Type 0} → Given A → ℕ
-number_of (Given.Act action) = 0
-number_of (Given.Ended answer) = 0
-number_of (Given.Failed error) = error_number error
-number_of (Given.Refused error) = error_number error
+number_of given = number_in (ending_in (λ answer. []) (given_as given))
 
--- it is the number of the call's ending, whatever values the answers have
+-- whatever values the answers have
 abbrev pub NumbersAgree : Type 1
 NumbersAgree = (A : Type 0) (values : A → List ℕ) (given : Given A) → number_of given ≡ number_in (ending_in values (given_as given))

@@ -13,7 +13,6 @@ use Rattle.machine.specs.declared.state.Stepped.{Stepped}
 use Rattle.machine.specs.declared.then.Next.{Next}
 use Rattle.machine.specs.declared.then.Opening.{Opening}
 use Rattle.machine.specs.Then.{Then}
-use Rattle.machine.specs.Then.{Then}
 
 -- ---- the code's own types as the machine's
 

@@ -51,7 +51,11 @@ fn freed<D: Part>(flash: FlashOf<D>) -> SteppedOf<D>
         return flash.refused(FlashError::OutOfTurn);
     }
     Stepped {
-        flash: Flash::resting(flash.setup, false, flash.delivered),
+        flash: Flash {
+            built: false,
+            running: None,
+            ..flash
+        },
         given: Given::Ended(D::done()),
     }
 }
@@ -62,7 +66,12 @@ fn opened<D: Part>(flash: FlashOf<D>, takes: Takes, then: ThenOf<D>) -> SteppedO
     ensures { result ≡ opened shape flash takes (then_as «then») }
 {
     match then {
-        Ok(_) => Flash::resting(flash.setup, flash.built, 0).settle(takes, then),
+        Ok(_) => Flash {
+            delivered: 0,
+            running: None,
+            ..flash
+        }
+        .settle(takes, then),
         Err(error) => flash.refused(error),
     }
 }

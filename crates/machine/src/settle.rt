@@ -1,54 +1,27 @@
 // A driver's state put together, and what a step comes to: the next transfer's first action, the call's end, or a refusal.
 ghost use Rattle.std.specs.Prelude.{◌≡◌};
 ghost use Rattle.spi_flash.specs.Settling.{started, settled};
-ghost use Rattle.machine.specs.Shape.{then_as, shape, flash_of, busy_of, started_of, refused_of};
+ghost use Rattle.machine.specs.Shape.{then_as, shape, flash_of, started_of, refused_of};
 
 use crate::state::{Flash, Given, Job, Stepped};
 use crate::then::{Next, Then};
 use frames::frame;
-use frames::frame::Frame;
 use qspi::bus::Action;
 use qspi::transfer::Transfer;
 use spi_flash::error::FlashError;
 use spi_flash::loan::Takes;
 
 impl<S: Copy, P: Copy> Flash<S, P> {
-    // Setup, built and delivered stand side by side here alone, where a Flash is made of them.
-    pub fn new(setup: S, built: bool, delivered: usize, running: Option<Job<P>>) -> Flash<S, P>
-        ensures { result ≡ flash_of setup built delivered running }
+    // The driver at rest. Setup, built and delivered stand side by side here alone, where a Flash is made of nothing else.
+    pub fn resting(setup: S, built: bool, delivered: usize) -> Flash<S, P>
+        ensures { result ≡ flash_of setup built delivered None }
     {
         Flash {
             setup,
             built,
             delivered,
-            running,
+            running: None,
         }
-    }
-
-    // The driver at rest.
-    pub fn resting(setup: S, built: bool, delivered: usize) -> Flash<S, P>
-        ensures { result ≡ flash_of setup built delivered None }
-    {
-        Flash::new(setup, built, delivered, None)
-    }
-
-    // The driver with a transfer out.
-    pub fn busy(
-        setup: S,
-        built: bool,
-        delivered: usize,
-        phase: P,
-        frame: Frame,
-        takes: Takes,
-    ) -> Flash<S, P>
-        ensures { result ≡ busy_of setup built delivered phase frame takes }
-    {
-        let job = Job {
-            phase,
-            frame,
-            takes,
-        };
-        Flash::new(setup, built, delivered, Some(job))
     }
 
     // The state unchanged, and why.
@@ -74,10 +47,18 @@ impl<S: Copy, P: Copy> Flash<S, P> {
     pub fn start<A>(self, takes: Takes, setup: S, transfer: Transfer, phase: P) -> Stepped<S, P, A>
         ensures { result ≡ started shape self takes setup transfer phase }
     {
-        let first = frame::first(transfer);
-        Flash::busy(setup, self.built, self.delivered, phase, first, takes).acting(frame::pending(
-            first,
-        ))
+        let frame = frame::first(transfer);
+        let job = Job {
+            phase,
+            frame,
+            takes,
+        };
+        Flash {
+            setup,
+            running: Some(job),
+            ..self
+        }
+        .acting(frame::pending(frame))
     }
 
     // Goes on with the next transfer, or ends the call. A call that has succeeded leaves the driver built.
@@ -94,11 +75,19 @@ impl<S: Copy, P: Copy> Flash<S, P> {
                 },
             ) => self.start(takes, setup, transfer, phase),
             Ok(Next::End { setup, answer }) => Stepped {
-                flash: Flash::resting(setup, true, self.delivered),
+                flash: Flash {
+                    setup,
+                    built: true,
+                    running: None,
+                    ..self
+                },
                 given: Given::Ended(answer),
             },
             Err(error) => Stepped {
-                flash: Flash::resting(self.setup, self.built, self.delivered),
+                flash: Flash {
+                    running: None,
+                    ..self
+                },
                 given: Given::Failed(error),
             },
         }

@@ -13,7 +13,8 @@ use qspi::bus::Reply;
 use spi_flash::error::FlashError;
 use spi_flash::loan;
 
-// What does not fit is refused; what fits brings the transfer that is out on, or ends it.
+// What does not fit is refused; what fits brings the transfer that is out on, or ends it. The job is the flash's own, where it is known to
+// be there.
 fn exchanged<D: Part>(
     flash: FlashOf<D>,
     job: Job<D::Phase>,
@@ -25,14 +26,12 @@ fn exchanged<D: Part>(
     match heard {
         Exchanged::Misfit => flash.refused(FlashError::Misfit),
         Exchanged::Gave { frame, action } => {
-            Flash::busy(
-                flash.setup,
-                flash.built,
+            let running = Some(Job { frame, ..job });
+            Flash {
                 delivered,
-                job.phase,
-                frame,
-                job.takes,
-            )
+                running,
+                ..flash
+            }
             .acting(action)
         }
         Exchanged::Over(outcome) => flash.settle(

@@ -20,6 +20,7 @@ pub type SpiNandFlash = state::Flash<Setup, Phase>;
 
 pub type Stepped = state::Stepped<Setup, Phase, Answer>;
 
+#[derive(Clone, Copy)]
 pub struct Nand;
 
 impl Part for Nand {
@@ -56,7 +57,7 @@ impl Part for Nand {
     }
 }
 
-// A driver before any construction.
+// A driver before any construction: a line over `Flash::resting`, in which both are alike. A member of `Part` for `fresh` would be longer.
 pub fn not_built() -> SpiNandFlash
     ensures { result ≡ not_built }
 {

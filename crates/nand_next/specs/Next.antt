@@ -76,7 +76,7 @@ answered_then setup Asked.Configuration v = end_with setup (Answer.Configuration
 answered_then setup Asked.Protection v = end_with setup (Answer.Protection (protection_of (byte_of v)))
 answered_then setup (Asked.Id bring_up) v = identify_then setup (id_of v) bring_up
 answered_then setup (Asked.Configure bring_up) v = configure_then setup (configuration_of (byte_of v)) bring_up
-answered_then setup (Asked.Configured before bring_up) v = check_configuration setup (configuration_of before) bring_up (configuration_of (byte_of v))
+answered_then setup (Asked.Configured before bring_up) v = check_configuration setup before bring_up (configuration_of (byte_of v))
 answered_then setup (Asked.Unprotect bring_up) v = unprotect_then setup (protection_of (byte_of v)) bring_up
 answered_then setup Asked.BroughtUp v = brought_up setup (configuration_of (byte_of v))
 answered_then setup Asked.DisableQuad v = disable_quad setup (configuration_of (byte_of v))
@@ -88,7 +88,7 @@ unfoldable pub after_phase : Setup → Phase → ℕ → Then
 after_phase setup Phase.Raised v = reset setup (ResetFor.Identify in_bring_up)
 after_phase setup (Phase.Asking asked) v = answered_then setup asked v
 after_phase setup (Phase.Enabling why at) v = enabling_then setup why at (status_of (byte_of v))
-after_phase setup (Phase.Waiting task at waited) v = waiting_then setup task at waited (status_of (byte_of v))
+after_phase setup (Phase.Waiting task at) v = waiting_then setup task at (status_of (byte_of v))
 after_phase setup Phase.ReadingCache v = done setup
 after_phase setup Phase.Comparing v = compared_then setup v
 after_phase setup (Phase.ReadingMarker why) v = marker_then setup why (byte_of v)

@@ -42,11 +42,11 @@ judge_task setup (Task.Erase why) status = erased_then setup why status
 
 -- `self.read_status()?.busy()`
 abbrev pub look_then : Setup → Task → ℕ → Then
-look_then setup task waited = look setup (Phase.Waiting task WaitStep.Look waited)
+look_then setup task waited = look setup (Phase.Waiting task (WaitStep.Look waited))
 
 -- `self.delay.delay_us(..)`
 abbrev pub pause_then : Setup → Task → ℕ → ℕ → Then
-pause_then setup task us waited = go_to setup (Transfer.Pause us) (Phase.Waiting task WaitStep.Pause waited)
+pause_then setup task us waited = go_to setup (Transfer.Pause us) (Phase.Waiting task (WaitStep.Pause waited))
 
 -- a step of the wait
 unfoldable pub wait_then : Setup → Task → Wait → Then
@@ -63,8 +63,8 @@ abbrev pub looked_then : Setup → Task → ℕ → Status → Then
 looked_then setup task waited status = wait_then setup task (next_wait (timings_of (task_operation task)) waited (busy_of status))
 
 -- what follows each step; a status is looked at only behind a look and at the end
-unfoldable pub waiting_then : Setup → Task → WaitStep → ℕ → Status → Then
-waiting_then setup task WaitStep.Command waited status = sent_then setup task
-waiting_then setup task WaitStep.Look waited status = looked_then setup task waited status
-waiting_then setup task WaitStep.Pause waited status = look_then setup task waited
-waiting_then setup task WaitStep.Verdict waited status = judge_task setup task status
+unfoldable pub waiting_then : Setup → Task → WaitStep → Status → Then
+waiting_then setup task WaitStep.Command status = sent_then setup task
+waiting_then setup task (WaitStep.Look waited) status = looked_then setup task waited status
+waiting_then setup task (WaitStep.Pause waited) status = look_then setup task waited
+waiting_then setup task WaitStep.Verdict status = judge_task setup task status

@@ -88,6 +88,7 @@ fn latch(setup: Setup, why: EnableFor) -> Then
     )
 }
 
+// The NOR's latch is alike, over another register and with another end.
 #[tactic(auto, unfolding(crate::specs::Next::latched_then))]
 fn latched(setup: Setup, why: EnableFor, status: Status) -> Then
     ensures { result ≡ latched_then setup why status }
@@ -138,12 +139,7 @@ fn answered(setup: Setup, asked: Asked, v: u64) -> Then
             register::configure(setup, Configuration::from_byte(b), bring_up)
         }
         Asked::Configured { before, bring_up } => {
-            register::check_configuration(
-                setup,
-                Configuration::from_byte(before),
-                bring_up,
-                Configuration::from_byte(b),
-            )
+            register::check_configuration(setup, before, bring_up, Configuration::from_byte(b))
         }
         Asked::Unprotect { bring_up } => {
             register::unprotect(setup, Protection::from_byte(b), bring_up)
@@ -172,9 +168,7 @@ fn after(setup: Setup, phase: Phase, v: u64) -> Then
         Phase::Raised => raised(setup),
         Phase::Asking(asked) => answered(setup, asked, v),
         Phase::Enabling { why, at } => enabling(setup, why, at, Status::from_byte(b)),
-        Phase::Waiting { task, at, waited } => {
-            wait::waiting(setup, task, at, waited, Status::from_byte(b))
-        }
+        Phase::Waiting { task, at } => wait::waiting(setup, task, at, Status::from_byte(b)),
         Phase::ReadingCache => go::done(setup),
         Phase::Comparing => cache::compared(setup, v),
         Phase::ReadingMarker(why) => block::marker(setup, why, b),

@@ -63,8 +63,7 @@ fn look(setup: Setup, task: Task, waited: u32) -> Then
         setup,
         Phase::Waiting {
             task,
-            at: WaitStep::Look,
-            waited,
+            at: WaitStep::Look(waited),
         },
     )
 }
@@ -77,8 +76,7 @@ fn pause(setup: Setup, task: Task, us: u32, waited: u32) -> Then
         Transfer::Pause(us),
         Phase::Waiting {
             task,
-            at: WaitStep::Pause,
-            waited,
+            at: WaitStep::Pause(waited),
         },
     )
 }
@@ -123,13 +121,13 @@ fn looked(setup: Setup, task: Task, waited: u32, status: Status) -> Then
 
 // What follows each step of a task. A status is looked at only behind a look and at the end.
 #[tactic(auto, unfolding(crate::specs::Wait::waiting_then))]
-pub fn waiting(setup: Setup, task: Task, at: WaitStep, waited: u32, status: Status) -> Then
-    ensures { result ≡ waiting_then setup task at waited status }
+pub fn waiting(setup: Setup, task: Task, at: WaitStep, status: Status) -> Then
+    ensures { result ≡ waiting_then setup task at status }
 {
     match at {
         WaitStep::Command => sent(setup, task),
-        WaitStep::Look => looked(setup, task, waited, status),
-        WaitStep::Pause => look(setup, task, waited),
+        WaitStep::Look(waited) => looked(setup, task, waited, status),
+        WaitStep::Pause(waited) => look(setup, task, waited),
         WaitStep::Verdict => judged(setup, task, status),
     }
 }

@@ -1,5 +1,7 @@
 // The chip's cache: what is read from it and loaded into it.
 ghost use Rattle.std.specs.Prelude.{◌≡◌};
+ghost use Rattle.spi_flash.specs.Range.{checked};
+ghost use Rattle.nand_phases.specs.Transfer.{in_cache};
 ghost use Rattle.nand_pages.specs.Cache.{read_cache_then, whole_then, read_marker_then, piece_then, compared_then, payload_length, load_program_then};
 
 use nand_phases::phase::{MarkerFor, Phase};
@@ -9,20 +11,27 @@ use nand_steps::go;
 use nand_steps::then::Then;
 use qspi::transfer::{Payload, Sink};
 use spi_flash::error::FlashError;
+use spi_flash::range;
 use spi_flash::range::Span;
+use spi_nand::config::NandGeometry;
+
+// Column and length stay two, as in the Rust: a Span is of many pieces, this of one.
+fn check_cache_range(geometry: NandGeometry, column: usize, length: usize) -> Result<(), FlashError>
+    ensures { result ≡ checked (in_cache geometry column length) }
+{
+    range::checked(transfer::in_cache(geometry, column, length))
+}
 
 #[tactic(auto, unfolding(crate::specs::Cache::read_cache_then))]
 pub fn read_cache(setup: Setup, column: usize, len: usize, sink: Sink, phase: Phase) -> Then
     ensures { result ≡ read_cache_then setup column len sink phase }
 {
-    if transfer::in_cache(setup.geometry, column, len) {
-        return go::go(
-            setup,
-            transfer::cache_read_transfer(setup.config, column, len, sink),
-            phase,
-        );
-    }
-    Err(FlashError::OutOfBounds)
+    check_cache_range(setup.geometry, column, len)?;
+    go::go(
+        setup,
+        transfer::cache_read_transfer(setup.config, column, len, sink),
+        phase,
+    )
 }
 
 fn whole(setup: Setup, sink: Sink, phase: Phase) -> Then
@@ -73,7 +82,7 @@ pub fn read_piece(setup: Setup, span: Span<usize>) -> Then
     )
 }
 
-// write_page's comparison, or 0 where the bytes differ: what a transfer gives is a number, also here.
+// write_page's comparison, 0 where the bytes differ: what a transfer gives is a number, also here.
 #[tactic(auto, unfolding(crate::specs::Cache::compared_then))]
 pub fn compared(setup: Setup, same: u64) -> Then
     ensures { result ≡ compared_then setup same }
@@ -99,12 +108,10 @@ fn payload_len(payload: Payload) -> usize
 pub fn load_program_data(setup: Setup, column: usize, payload: Payload, phase: Phase) -> Then
     ensures { result ≡ load_program_then setup column payload phase }
 {
-    if transfer::in_cache(setup.geometry, column, payload_len(payload)) {
-        return go::go(
-            setup,
-            transfer::cache_load_transfer(setup.config, column, payload),
-            phase,
-        );
-    }
-    Err(FlashError::OutOfBounds)
+    check_cache_range(setup.geometry, column, payload_len(payload))?;
+    go::go(
+        setup,
+        transfer::cache_load_transfer(setup.config, column, payload),
+        phase,
+    )
 }

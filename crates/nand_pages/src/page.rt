@@ -1,5 +1,7 @@
 // Pages: loads, programs, and the two together.
-ghost use Rattle.std.specs.Prelude.{◌≡◌};
+ghost use Rattle.std.specs.Prelude.{◌≡◌, ltb};
+ghost use Rattle.spi_flash.specs.Range.{checked};
+ghost use Rattle.spi_nand.specs.Config.{page_count_of};
 ghost use Rattle.nand_pages.specs.Page.{page_read_then, load_then, is_bad_then, loaded_then, judged_then, accepted_then, program_then, programmed_then, read_page_then, write_page_then};
 
 use crate::cache;
@@ -8,20 +10,25 @@ use nand_phases::setup::Setup;
 use nand_steps::go;
 use nand_steps::then::Then;
 use spi_flash::error::FlashError;
+use spi_flash::range;
 use spi_nand::command;
+use spi_nand::config::NandGeometry;
 use spi_nand::status::{EccVerdict, Status};
+
+fn check_page(geometry: NandGeometry, page: usize) -> Result<(), FlashError>
+    ensures { result ≡ checked (ltb page (page_count_of geometry)) }
+{
+    range::checked(page < geometry.page_count())
+}
 
 // ---- loads
 
-// page_read: check_page, then load_page.
 #[tactic(auto, unfolding(crate::specs::Page::page_read_then))]
 pub fn page_read(setup: Setup, page: usize, why: LoadFor) -> Then
     ensures { result ≡ page_read_then setup page why }
 {
-    if page < setup.geometry.page_count() {
-        return load(setup, page, why);
-    }
-    Err(FlashError::OutOfBounds)
+    check_page(setup.geometry, page)?;
+    load(setup, page, why)
 }
 
 // load_page
@@ -37,10 +44,10 @@ pub fn is_bad_block(setup: Setup, block: usize, why: MarkerFor) -> Then
     ensures { result ≡ is_bad_then setup block why }
 {
     let geometry = setup.geometry;
-    if block < geometry.block_count {
-        return load(setup, geometry.first_page(block), LoadFor::Marker(why));
+    if block >= geometry.block_count {
+        return Err(FlashError::OutOfBounds);
     }
-    Err(FlashError::OutOfBounds)
+    load(setup, geometry.first_page(block), LoadFor::Marker(why))
 }
 
 // The end of a load's wait: its verdict is that of the next status.
@@ -81,19 +88,17 @@ fn accepted(setup: Setup, why: LoadFor) -> Then
 
 // ---- programs
 
-// program_execute: check_page, then the command.
+// program_execute
 #[tactic(auto, unfolding(crate::specs::Page::program_then))]
 pub fn program(setup: Setup, page: usize, why: ProgramFor) -> Then
     ensures { result ≡ program_then setup page why }
 {
-    if page < setup.geometry.page_count() {
-        return go::send(
-            setup,
-            command::program_execute_command(page),
-            Task::Program(why),
-        );
-    }
-    Err(FlashError::OutOfBounds)
+    check_page(setup.geometry, page)?;
+    go::send(
+        setup,
+        command::program_execute_command(page),
+        Task::Program(why),
+    )
 }
 
 #[tactic(auto, unfolding(crate::specs::Page::programmed_then))]
@@ -116,21 +121,19 @@ pub fn programmed(setup: Setup, why: ProgramFor, status: Status) -> Then
 pub fn read_page(setup: Setup, page: usize, len: usize) -> Then
     ensures { result ≡ read_page_then setup page len }
 {
-    if len == setup.geometry.page_size {
-        return page_read(setup, page, LoadFor::ReadPage);
+    if len != setup.geometry.page_size {
+        return Err(FlashError::InvalidLength);
     }
-    Err(FlashError::InvalidLength)
+    page_read(setup, page, LoadFor::ReadPage)
 }
 
 #[tactic(auto, unfolding(crate::specs::Page::write_page_then))]
 pub fn write_page(setup: Setup, page: usize, len: usize) -> Then
     ensures { result ≡ write_page_then setup page len }
 {
-    if len == setup.geometry.page_size {
-        if page < setup.geometry.page_count() {
-            return go::enable(setup, EnableFor::WritePage(page));
-        }
-        return Err(FlashError::OutOfBounds);
+    if len != setup.geometry.page_size {
+        return Err(FlashError::InvalidLength);
     }
-    Err(FlashError::InvalidLength)
+    check_page(setup.geometry, page)?;
+    go::enable(setup, EnableFor::WritePage(page))
 }

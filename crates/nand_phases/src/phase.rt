@@ -4,6 +4,7 @@ ghost use Rattle.std.specs.Prelude.{◌≡◌};
 ghost use Rattle.nand_phases.specs.Verdict.{asks_verdict};
 
 use spi_flash::range::Span;
+use spi_nand::status::{Configuration, Protection};
 
 // Here and below `bring_up` tells a part of bring_up from a call of its own: the same value is kept in both, so it is no Option.
 // `Reset`, and below `Call`, is a call of its own, which the None of an Option would not say.
@@ -17,11 +18,17 @@ pub enum ResetFor {
 #[derive(Clone, Copy)]
 pub enum RegisterFor {
     Call,
-    // ensure_configuration, with the register as it was read.
-    Configure { before: u8, bring_up: bool },
+    // ensure_configuration, with the register as it was read: of its own type, so that no call takes one register for another.
+    Configure {
+        before: Configuration,
+        bring_up: bool,
+    },
     DisableQuad,
     // unprotect, likewise.
-    Unprotect { before: u8, bring_up: bool },
+    Unprotect {
+        before: Protection,
+        bring_up: bool,
+    },
 }
 
 // What is_bad_block is for.
@@ -105,11 +112,12 @@ pub enum Task {
 }
 
 // Where a task stands: its command is out, a look at the status, a delay between two looks, or the status that tells how it went.
+// The number is the microseconds asked so far, those of the delay that is out among them.
 #[derive(Clone, Copy)]
 pub enum WaitStep {
     Command,
-    Look,
-    Pause,
+    Look(u32),
+    Pause(u32),
     Verdict,
 }
 
@@ -121,11 +129,20 @@ pub enum Asked {
     Configuration,
     Protection,
     // jedec_id, reset_and_identify; bring_up
-    Id { bring_up: bool },
+    Id {
+        bring_up: bool,
+    },
     // ensure_configuration: before the write, and after it
-    Configure { bring_up: bool },
-    Configured { before: u8, bring_up: bool },
-    Unprotect { bring_up: bool },
+    Configure {
+        bring_up: bool,
+    },
+    Configured {
+        before: Configuration,
+        bring_up: bool,
+    },
+    Unprotect {
+        bring_up: bool,
+    },
     // bring_up's last
     BroughtUp,
     // disable_quad, likewise
@@ -139,16 +156,9 @@ pub enum Phase {
     Raised,
     Asking(Asked),
     // write_enable
-    Enabling {
-        why: EnableFor,
-        at: EnableStep,
-    },
+    Enabling { why: EnableFor, at: EnableStep },
     // a command, wait_ready, and how it went
-    Waiting {
-        task: Task,
-        at: WaitStep,
-        waited: u32,
-    },
+    Waiting { task: Task, at: WaitStep },
     // read_cache: into the caller's buffer, for write_page's comparison, for is_bad_block, for a piece of read
     ReadingCache,
     Comparing,
@@ -157,9 +167,6 @@ pub enum Phase {
     // load_program_data: of the caller's data, of write_page, and of mark_bad_block's filler and marker
     LoadingData,
     LoadingPage(usize),
-    LoadingFiller {
-        block: usize,
-        column: usize,
-    },
+    LoadingFiller { block: usize, column: usize },
     LoadingMarker(usize),
 }

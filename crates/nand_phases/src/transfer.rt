@@ -79,7 +79,7 @@ pub fn task_operation(task: Task) -> Operation
     }
 }
 
-// check_cache_range
+// What check_cache_range tests.
 #[tactic(auto, unfolding(crate::specs::Transfer::in_cache))]
 pub fn in_cache(geometry: NandGeometry, column: usize, length: usize) -> bool
     ensures { result ≡ in_cache geometry column length }
@@ -87,7 +87,7 @@ pub fn in_cache(geometry: NandGeometry, column: usize, length: usize) -> bool
     range::range_in_bounds(geometry.cache_size(), column, length)
 }
 
-// check_range
+// What check_range tests.
 #[tactic(auto, unfolding(crate::specs::Transfer::in_range))]
 pub fn in_range(geometry: NandGeometry, offset: usize, length: usize) -> bool
     ensures { result ≡ in_range geometry offset length }
@@ -109,23 +109,13 @@ pub fn place(span: Span<usize>) -> usize
 pub fn page_at(geometry: NandGeometry, address: usize) -> usize
     ensures { result ≡ page_at geometry address }
 {
-    let page_size = geometry.page_size;
-    if page_size == 0 {
-        0
-    } else {
-        address / page_size
-    }
+    address.checked_div(geometry.page_size).unwrap_or(0)
 }
 
 pub fn column_at(geometry: NandGeometry, address: usize) -> usize
     ensures { result ≡ column_at geometry address }
 {
-    let page_size = geometry.page_size;
-    if page_size == 0 {
-        address
-    } else {
-        address % page_size
-    }
+    address.checked_rem(geometry.page_size).unwrap_or(address)
 }
 
 // The bytes from the next piece's column to the end of its page.
@@ -144,18 +134,17 @@ pub fn chunk(geometry: NandGeometry, span: Span<usize>) -> usize
     range::piece(page_rest(geometry, span), span.len, span.done)
 }
 
-// Where the call stands after that piece. What it shares with the NOR's is `range::past_piece`.
+// Where the call stands after that piece.
 #[tactic(auto, unfolding(crate::specs::Transfer::chunk_of))]
 pub fn past_chunk(geometry: NandGeometry, s: Span<usize>) -> Span<usize>
     ensures { result ≡ span s.offset s.len (s.done + chunk_of geometry s.offset s.len s.done) }
 {
-    let done = range::past_piece(page_rest(geometry, s), s.len, s.done);
-    Span { done, ..s }
+    s.past(page_rest(geometry, s))
 }
 
 // ---- mark_bad_block's filler
 
-// The bytes of FF_CHUNK.
+// The bytes of FF_CHUNK, a constant of the Rust. What the scratch has room for is FILLER_MOST of qspi.
 pub const FILLER_CHUNK: usize = 256;
 
 // The bytes of the next load of filler.
@@ -166,7 +155,8 @@ pub fn filler(geometry: NandGeometry, column: usize) -> usize
     range::piece(FILLER_CHUNK, geometry.page_size, column)
 }
 
-// The column after that load.
+// The column after that load: `range::past_piece`, as in `Span::past`. A column is no Span, which would hold an offset and the page's
+// size beside it.
 #[tactic(auto, unfolding(crate::specs::Transfer::filler_of))]
 pub fn past_filler(geometry: NandGeometry, column: usize) -> usize
     ensures { result ≡ column + filler_of geometry column }

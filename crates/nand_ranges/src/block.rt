@@ -22,10 +22,10 @@ pub const GOOD_MARKER: u8 = 0xFF;
 pub fn erase_block(setup: Setup, block: usize, why: EraseFor) -> Then
     ensures { result ≡ erase_then setup block why }
 {
-    if block < setup.geometry.block_count {
-        return go::enable(setup, EnableFor::Erase { block, why });
+    if block >= setup.geometry.block_count {
+        return Err(FlashError::OutOfBounds);
     }
-    Err(FlashError::OutOfBounds)
+    go::enable(setup, EnableFor::Erase { block, why })
 }
 
 // page::programmed tests another bit and goes on otherwise; only the two branches are alike.

@@ -1,5 +1,7 @@
 // read, page by page: each piece waits for the load of its page and for the verdict.
 ghost use Rattle.std.specs.Prelude.{◌≡◌};
+ghost use Rattle.spi_flash.specs.Range.{checked};
+ghost use Rattle.nand_phases.specs.Transfer.{in_range};
 ghost use Rattle.nand_ranges.specs.Read.{read_from, read_then, piece_read_then};
 
 use nand_pages::page;
@@ -9,25 +11,23 @@ use nand_phases::transfer;
 use nand_steps::go;
 use nand_steps::then::Then;
 use spi_flash::error::FlashError;
+use spi_flash::range;
 use spi_flash::range::Span;
+use spi_nand::config::NandGeometry;
 
-// check_range, then the pages.
+fn check_range(geometry: NandGeometry, offset: usize, length: usize) -> Result<(), FlashError>
+    ensures { result ≡ checked (in_range geometry offset length) }
+{
+    range::checked(transfer::in_range(geometry, offset, length))
+}
+
 // The NOR's `read` begins alike, over the Rust's other type of offset and other pieces: what they share is range_in_bounds and Span.
 #[tactic(auto, unfolding(crate::specs::Read::read_then))]
 pub fn read(setup: Setup, offset: usize, len: usize) -> Then
     ensures { result ≡ read_then setup offset len }
 {
-    if transfer::in_range(setup.geometry, offset, len) {
-        return read_from(
-            setup,
-            Span {
-                offset,
-                len,
-                done: 0,
-            },
-        );
-    }
-    Err(FlashError::OutOfBounds)
+    check_range(setup.geometry, offset, len)?;
+    read_from(setup, Span::whole(offset, len))
 }
 
 // The loop's head: `while done < buffer.len()`.

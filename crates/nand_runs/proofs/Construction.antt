@@ -9,6 +9,7 @@ use Rattle.qspi.proofs.Cases.{by_cases}
 use Rattle.std.specs.Prelude.{if◌then◌else◌, Option, Some, None}
 use Rattle.spi_flash.specs.Prog.{Prog, ret, fail, ask, ◌>>=◌, ◌>>◌, refuse}
 use Rattle.spi_flash.specs.declared.error.FlashError.{FlashError}
+use Rattle.spi_flash.proofs.Laws.{bind_assoc}
 use Rattle.flash_runs.proofs.General.{place}
 use Rattle.spi_nand.specs.Opcode.{REG-CONFIGURATION, REG-BLOCK-PROTECTION}
 use Rattle.spi_nand.specs.Status.{configuration_of, configuration_byte, same_configuration, protection_of, is_unlocked}
@@ -29,7 +30,6 @@ use Rattle.nand_driver.specs.Call.{given_at, fresh_setup}
 use Rattle.nand_rust.specs.Rust.{Nothing, MAX-VERIFY-PAGE-SIZE, wanted-of, read-configuration, read-protection, write-register, reset, jedec-id, reset-and-identify, ensure-configuration, unprotect, bring-up, resolved, constructed, with-config}
 use Rattle.nand_rust.specs.Program.{Left, page_taken, refused-page, program_of, rust_program}
 use Rattle.nand_runs.proofs.Meaning.{DONE, brought-up, unprotected, unprotect-on, configured, check-configured, configure-on, identified, meaning_at, meaning}
-use Rattle.nand_runs.proofs.Simulation.{bind_assoc}
 
 -- ---- bring_up behind the identification
 

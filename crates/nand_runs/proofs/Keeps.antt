@@ -7,6 +7,7 @@ use mathlib.Core.Path.{◌≡◌, refl}
 use lib.Dec.{ltb, leb, eqb}
 use Rattle.std.specs.Prelude.{Err}
 use Rattle.qspi.specs.Choice.{pick}
+use Rattle.qspi.proofs.Cases.{keeps-pick}
 use Rattle.qspi.specs.declared.transfer.Payload.{Payload}
 use Rattle.qspi.specs.declared.transfer.Sink.{Sink}
 use Rattle.qspi.specs.declared.transfer.Transfer.{Transfer}
@@ -98,10 +99,10 @@ module _ (Ok : Bool → Type 0) where
   OkPhase (Phase.Asking asked) = OkAsked asked
   OkPhase (Phase.Enabling why EnableStep.Command) = OkEnable why
   OkPhase (Phase.Enabling why EnableStep.Latch) = OkEnable why
-  OkPhase (Phase.Waiting task WaitStep.Command waited) = OkTask task
-  OkPhase (Phase.Waiting task WaitStep.Look waited) = OkTask task
-  OkPhase (Phase.Waiting task WaitStep.Pause waited) = OkTask task
-  OkPhase (Phase.Waiting task WaitStep.Verdict waited) = OkTask task
+  OkPhase (Phase.Waiting task WaitStep.Command) = OkTask task
+  OkPhase (Phase.Waiting task (WaitStep.Look waited)) = OkTask task
+  OkPhase (Phase.Waiting task (WaitStep.Pause waited)) = OkTask task
+  OkPhase (Phase.Waiting task WaitStep.Verdict) = OkTask task
   OkPhase Phase.ReadingCache = Unit {0}
   OkPhase Phase.Comparing = Unit {0}
   OkPhase (Phase.ReadingMarker why) = Unit {0}
@@ -154,10 +155,10 @@ module _ where
   all-ok (Phase.Asking asked) = any-asked asked
   all-ok (Phase.Enabling why EnableStep.Command) = any-enable why
   all-ok (Phase.Enabling why EnableStep.Latch) = any-enable why
-  all-ok (Phase.Waiting task WaitStep.Command waited) = any-task task
-  all-ok (Phase.Waiting task WaitStep.Look waited) = any-task task
-  all-ok (Phase.Waiting task WaitStep.Pause waited) = any-task task
-  all-ok (Phase.Waiting task WaitStep.Verdict waited) = any-task task
+  all-ok (Phase.Waiting task WaitStep.Command) = any-task task
+  all-ok (Phase.Waiting task (WaitStep.Look waited)) = any-task task
+  all-ok (Phase.Waiting task (WaitStep.Pause waited)) = any-task task
+  all-ok (Phase.Waiting task WaitStep.Verdict) = any-task task
   all-ok Phase.ReadingCache = tt
   all-ok Phase.Comparing = tt
   all-ok (Phase.ReadingMarker why) = tt
@@ -168,11 +169,6 @@ module _ where
   all-ok (Phase.LoadingMarker block) = tt
 
 -- ---- the walk
-
--- a test between two ways of going on
-pub keeps-pick : (R : Then → Type 0) (b : Bool) (x y : Then) → R x → R y → R (pick b x y)
-keeps-pick R true x y h k = h
-keeps-pick R false x y h k = k
 
 -- R holds of every step that goes on with a setup of which In holds, in a phase that is ok; In is kept by what bring_up puts down
 pub record Passes (Ok : Bool → Type 0) (In : Setup → Type 0) (R : Then → Type 0) : Type 0 where
@@ -332,7 +328,7 @@ module _ {Ok : Bool → Type 0} {In : Setup → Type 0} {R : Then → Type 0} (p
     keeps-written RegisterFor.Call h = ends
     keeps-written (RegisterFor.Configure c within) h = goes h
     keeps-written RegisterFor.DisableQuad h = goes tt
-    keeps-written (RegisterFor.Unprotect p within) h = keeps-unprotected (protection_of p) within h
+    keeps-written (RegisterFor.Unprotect p within) h = keeps-unprotected p within h
 
     keeps-identify : (id : NandJedecId) (within : Bool) → Ok within → R (identify_then s id within)
     unfolding identify_then identified_then
@@ -388,7 +384,7 @@ module _ {Ok : Bool → Type 0} {In : Setup → Type 0} {R : Then → Type 0} (p
     keeps-answered Asked.Protection v h = ends
     keeps-answered (Asked.Id within) v h = keeps-identify (id_of v) within h
     keeps-answered (Asked.Configure within) v h = keeps-configure (configuration_of (v % 256)) within h
-    keeps-answered (Asked.Configured c within) v h = keeps-check (configuration_of c) within (configuration_of (v % 256)) h
+    keeps-answered (Asked.Configured c within) v h = keeps-check c within (configuration_of (v % 256)) h
     keeps-answered (Asked.Unprotect within) v h = keeps-unprotect (protection_of (v % 256)) within h
     keeps-answered Asked.BroughtUp v h = passes.end _ _ (passes.after s (configuration_of (v % 256)) h i)
     keeps-answered Asked.DisableQuad v h = keeps-disable (configuration_of (v % 256))
@@ -400,10 +396,10 @@ module _ {Ok : Bool → Type 0} {In : Setup → Type 0} {R : Then → Type 0} (p
     keeps-phase (Phase.Asking asked) v h = keeps-answered asked v h
     keeps-phase (Phase.Enabling why EnableStep.Command) v h = goes h
     keeps-phase (Phase.Enabling why EnableStep.Latch) v h = keeps-latched why (status_of (v % 256)) h
-    keeps-phase (Phase.Waiting task WaitStep.Command waited) v h = keeps-wait task (first_wait (timings_of (task_operation task))) h
-    keeps-phase (Phase.Waiting task WaitStep.Look waited) v h = keeps-wait task (next_wait (timings_of (task_operation task)) waited (busy_of (status_of (v % 256)))) h
-    keeps-phase (Phase.Waiting task WaitStep.Pause waited) v h = goes h
-    keeps-phase (Phase.Waiting task WaitStep.Verdict waited) v h = keeps-task-judged task (status_of (v % 256)) h
+    keeps-phase (Phase.Waiting task WaitStep.Command) v h = keeps-wait task (first_wait (timings_of (task_operation task))) h
+    keeps-phase (Phase.Waiting task (WaitStep.Look waited)) v h = keeps-wait task (next_wait (timings_of (task_operation task)) waited (busy_of (status_of (v % 256)))) h
+    keeps-phase (Phase.Waiting task (WaitStep.Pause waited)) v h = goes h
+    keeps-phase (Phase.Waiting task WaitStep.Verdict) v h = keeps-task-judged task (status_of (v % 256)) h
     keeps-phase Phase.ReadingCache v h = ends
     keeps-phase Phase.Comparing v h = keeps-compared v
     keeps-phase (Phase.ReadingMarker why) v h = keeps-marker why (v % 256)

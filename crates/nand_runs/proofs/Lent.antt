@@ -12,7 +12,7 @@ use Rattle.qspi.proofs.Cases.{by_cases}
 use Rattle.spi_flash.specs.Path.{Bounded}
 use Rattle.spi_flash.specs.Prog.{Prog, ret, ◌>>=◌, ◌>>◌, refuse, transfer}
 use Rattle.spi_flash.specs.declared.error.FlashError.{FlashError}
-use Rattle.spi_flash.proofs.Laws.{bounded-more, answered}
+use Rattle.spi_flash.proofs.Laws.{bind_assoc, bounded-more, answered}
 use Rattle.spi_flash.proofs.Unread.{buffer_reads, unread-delayed}
 use Rattle.flash_runs.specs.Driver.{takes_of}
 use Rattle.flash_runs.proofs.Filling.{Fills}
@@ -37,7 +37,6 @@ use Rattle.nand_rust.specs.Bound.{weight_of}
 use Rattle.nand_rust.proofs.Weights.{bounded-with-config, weighed-construction, weighed}
 use Rattle.nand_runs.specs.Run.{sort_of, nand_driver}
 use Rattle.nand_runs.proofs.Meaning.{DONE}
-use Rattle.nand_runs.proofs.Simulation.{bind_assoc}
 
 -- ---- no other call reads into the buffer
 

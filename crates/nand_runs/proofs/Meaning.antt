@@ -167,9 +167,9 @@ disable-on s before =
 unfoldable pub written : Setup → RegisterFor → Prog Left
 written s RegisterFor.Call = DONE s
 written s (RegisterFor.Configure before within) =
-    (read-configuration >>= check-configured s (configuration_of before)) >> configured s (configuration_of before) within
+    (read-configuration >>= check-configured s before) >> configured s before within
 written s RegisterFor.DisableQuad = (read-configuration >>= check-disabled) >> DONE s
-written s (RegisterFor.Unprotect before within) = unprotected s (protection_of before) within
+written s (RegisterFor.Unprotect before within) = unprotected s before within
 
 unfoldable pub identified : Setup → NandJedecId → Prog Left
 identified s id =
@@ -220,7 +220,7 @@ answered s Asked.Configuration v = ret (leaving s (Answer.Configuration (configu
 answered s Asked.Protection v = ret (leaving s (Answer.Protection (protection_of (v % 256))))
 answered s (Asked.Id within) v = identify s within (id-of v)
 answered s (Asked.Configure within) v = configure-on s within (configuration_of (v % 256))
-answered s (Asked.Configured before within) v = check-configured s (configuration_of before) (configuration_of (v % 256)) >> configured s (configuration_of before) within
+answered s (Asked.Configured before within) v = check-configured s before (configuration_of (v % 256)) >> configured s before within
 answered s (Asked.Unprotect within) v = unprotect-on s within (protection_of (v % 256))
 answered s Asked.BroughtUp v = brought-up s (configuration_of (v % 256))
 answered s Asked.DisableQuad v = disable-on s (configuration_of (v % 256))
@@ -231,12 +231,12 @@ meaning_at s Phase.Raised v = reset >> (jedec-id >>= identified s)
 meaning_at s (Phase.Asking asked) v = answered s asked v
 meaning_at s (Phase.Enabling why EnableStep.Command) v = (read-status >>= latch) >> enabled s why
 meaning_at s (Phase.Enabling why EnableStep.Latch) v = latch (status_of (v % 256)) >> enabled s why
-meaning_at s (Phase.Waiting task WaitStep.Command waited) v = wait-ready (task_operation task) >> resumed s task
-meaning_at s (Phase.Waiting task WaitStep.Look waited) v =
+meaning_at s (Phase.Waiting task WaitStep.Command) v = wait-ready (task_operation task) >> resumed s task
+meaning_at s (Phase.Waiting task (WaitStep.Look waited)) v =
     looked (get_feature_command REG-STATUS) busy_value (timings_of (task_operation task)) waited v >> resumed s task
-meaning_at s (Phase.Waiting task WaitStep.Pause waited) v =
+meaning_at s (Phase.Waiting task (WaitStep.Pause waited)) v =
     waiting (get_feature_command REG-STATUS) busy_value (timings_of (task_operation task)) waited >> resumed s task
-meaning_at s (Phase.Waiting task WaitStep.Verdict waited) v = task-judged s task (status_of (v % 256))
+meaning_at s (Phase.Waiting task WaitStep.Verdict) v = task-judged s task (status_of (v % 256))
 meaning_at s Phase.ReadingCache v = DONE s
 meaning_at s Phase.Comparing v = compared s v
 meaning_at s (Phase.ReadingMarker why) v = marker-read s why (bad v)

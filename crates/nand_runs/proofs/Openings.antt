@@ -7,7 +7,7 @@ use borrow.Author.Tests.{eqb-true}
 use Rattle.qspi.specs.declared.transfer.Payload.{Payload}
 use Rattle.qspi.specs.declared.transfer.Sink.{Sink}
 use Rattle.qspi.proofs.Cases.{by_cases}
-use Rattle.spi_flash.proofs.Laws.{then-assoc}
+use Rattle.spi_flash.proofs.Laws.{bind_assoc, then-assoc}
 use Rattle.spi_flash.specs.Machine.{tree}
 use Rattle.std.specs.Prelude.{if◌then◌else◌}
 use Rattle.spi_flash.specs.Prog.{Prog, ret, fail, ask, ◌>>=◌, ◌>>◌, refuse}
@@ -41,7 +41,7 @@ use Rattle.nand_rust.specs.Rust.{Nothing, wanted-of, read-status, read-configura
 use Rattle.nand_rust.specs.Program.{Left}
 use Rattle.nand_runs.proofs.Places.{decide}
 use Rattle.nand_runs.proofs.Meaning.{DONE, compared, confirmed, confirm, program-on, marker-on, fill_on, mark_on, marker-read, verify-on, program-page, read-on, accepted, loaded, after-program, after-erase, written, identify, reset-done, resumed, enabled, configured, check-configured, configure-on, unprotected, unprotect-on, check-disabled, disable-on, answered, meaning_at, meaning}
-use Rattle.nand_runs.proofs.Simulation.{bind_assoc, reads-cache, loads-cache, sends, enables, registers, page-reads, looks-bad, programs, erases, reads_on}
+use Rattle.nand_runs.proofs.Simulation.{reads-cache, loads-cache, sends, enables, registers, page-reads, looks-bad, programs, erases, reads_on}
 
 -- ---- registers and ids
 

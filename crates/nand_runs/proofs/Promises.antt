@@ -14,6 +14,7 @@ use Rattle.spi_flash.specs.Prog.{Prog, ret, fail, ask, ◌>>=◌, ◌>>◌, refu
 use Rattle.spi_flash.specs.Run.{Event}
 use Rattle.spi_flash.specs.Seen.{told}
 use Rattle.spi_flash.specs.declared.error.FlashError.{FlashError}
+use Rattle.spi_flash.proofs.Laws.{bind_assoc}
 use Rattle.flash_runs.specs.Driver.{leaving, run_at, steps_at, takes_at}
 use Rattle.flash_runs.specs.Promises.{Promises}
 use Rattle.flash_runs.specs.SameAsRust.{Regular}
@@ -42,7 +43,7 @@ use Rattle.nand_runs.specs.Run.{sort_of, nand_driver}
 use Rattle.nand_runs.proofs.Places.{parts, Valid}
 use Rattle.nand_runs.proofs.Keeps.{Built}
 use Rattle.nand_runs.proofs.Meaning.{DONE, meaning}
-use Rattle.nand_runs.proofs.Simulation.{bind_assoc, simulates}
+use Rattle.nand_runs.proofs.Simulation.{simulates}
 use Rattle.nand_runs.proofs.Known.{supplies, known}
 use Rattle.nand_runs.proofs.Is.{nand-is}
 

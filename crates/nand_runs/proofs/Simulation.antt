@@ -22,12 +22,12 @@ use Rattle.spi_flash.specs.WaitLaw.{waiting, delayed_wait}
 use Rattle.spi_flash.specs.Machine.{more, tree, Simulates}
 use Rattle.spi_flash.specs.declared.error.FlashError.{FlashError}
 use Rattle.spi_flash.specs.declared.wait.Wait.{Wait}
-use Rattle.spi_flash.proofs.Laws.{then-assoc}
+use Rattle.spi_flash.proofs.Laws.{bind_assoc, then-assoc}
 use Rattle.spi_flash.proofs.Waiting.{wait-in-general}
 use Rattle.spi_nand.specs.Command.{get_feature_command, set_feature_command, write_enable_command, page_read_command, program_execute_command, block_erase_command}
 use Rattle.spi_nand.specs.Config.{in_bounds, page_count_of, first_page_of}
 use Rattle.spi_nand.specs.Opcode.{REG-STATUS, REG-CONFIGURATION, REG-BLOCK-PROTECTION, timings_of}
-use Rattle.spi_nand.specs.Status.{busy_value, status_of, write_enabled_of, erase_failed_of, program_failed_of, verdict_of, configuration_of, protection_of, protection_byte, configuration_byte, quad_enabled_of, with_bits, ECC-ENABLE, BUFFER-READ, QUAD-ENABLE, OPERATIONAL, same_configuration, is_unlocked}
+use Rattle.spi_nand.specs.Status.{busy_value, status_of, write_enabled_of, erase_failed_of, program_failed_of, verdict_of, configuration_of, protection_of, configuration_byte, quad_enabled_of, with_bits, ECC-ENABLE, BUFFER-READ, QUAD-ENABLE, OPERATIONAL, same_configuration, is_unlocked}
 use Rattle.spi_nand.specs.declared.opcode.Operation.{Operation}
 use Rattle.spi_nand.specs.declared.status.Configuration.{Configuration}
 use Rattle.spi_nand.specs.declared.status.Protection.{Protection}
@@ -68,14 +68,6 @@ use Rattle.nand_runs.proofs.Places.{parts, decide, Valid}
 use Rattle.nand_runs.proofs.Keeps.{keeps}
 use Rattle.nand_runs.proofs.Meaning.{DONE, latch, compared, bad, confirmed, confirm, program-on, marker-on, fill_on, mark_on, marker-read, verify-on, program-page, read-on, accepted, judged, loaded, after-program, programmed, after-erase, erased, brought-up, unprotected, unprotect-on, configured, check-configured, configure-on, check-disabled, disable-on, written, identified, identify, reset-done, resumed, task-judged, enabled, answered, meaning_at, meaning}
 
--- ---- binding is associative
-
-pub bind_assoc : {A B C : Type 0} (p : Prog A) (f : A → Prog B) (g : B → Prog C) → (p >>= f) >>= g ≡ p >>= (λ a. f a >>= g)
-unfolding ◌>>=◌
-bind_assoc (ret a) f g = refl
-bind_assoc (fail e) f g = refl
-bind_assoc (ask t k) f g = ap (ask t) (fun_ext (λ v. bind_assoc (k v) f g))
-
 -- ---- the cache
 
 pub reads-cache : (s : Setup) (column n : ℕ) (sink : Sink) (phase : Phase) (f : ℕ → Prog Left) → f ≡ meaning (place s phase) →
@@ -95,7 +87,7 @@ loads-cache s column n payload phase p e =
 -- ---- a command and its wait
 
 pub sends : (s : Setup) (c : Command) (task : Task) → (transfer (Transfer.Framed c Body.None) >> wait-ready (task_operation task)) >> resumed s task
-    ≡ tree meaning (more (Transfer.Framed c Body.None) (place s (Phase.Waiting task WaitStep.Command 0)))
+    ≡ tree meaning (more (Transfer.Framed c Body.None) (place s (Phase.Waiting task WaitStep.Command)))
 unfolding meaning_at ◌>>=◌ ◌>>◌
 sends s c task = refl
 
@@ -104,7 +96,7 @@ unfolding write-enable meaning_at latch ◌>>=◌ ◌>>◌
 enables s why = refl
 
 waits : (s : Setup) (task : Task) (waited : ℕ) → waiting (get_feature_command REG-STATUS) busy_value (timings_of (task_operation task)) waited >> resumed s task
-    ≡ tree meaning (more (register_transfer REG-STATUS) (place s (Phase.Waiting task WaitStep.Look waited)))
+    ≡ tree meaning (more (register_transfer REG-STATUS) (place s (Phase.Waiting task (WaitStep.Look waited))))
 unfolding meaning_at looked ◌>>=◌ ◌>>◌
 waits s task waited =
     ap (λ p. p >> resumed s task) ((wait-in-general.loop (get_feature_command REG-STATUS) busy_value (timings_of (task_operation task)) (wait-table.rule (task_operation task)).poll).loops waited)
@@ -118,10 +110,10 @@ delayed Operation.Program = refl
 delayed Operation.Erase = refl
 delayed Operation.WriteRegister = refl
 
-sent : (s : Setup) (task : Task) (waited v : ℕ) →
-    meaning_at s (Phase.Waiting task WaitStep.Command waited) v ≡ tree meaning (decide (after_phase s (Phase.Waiting task WaitStep.Command waited) v))
+sent : (s : Setup) (task : Task) (v : ℕ) →
+    meaning_at s (Phase.Waiting task WaitStep.Command) v ≡ tree meaning (decide (after_phase s (Phase.Waiting task WaitStep.Command) v))
 unfolding meaning_at after_phase waiting_then wait_then wait-ready delayed_wait ◌>>=◌ ◌>>◌
-sent s task waited v = rw (delayed (task_operation task)) refl
+sent s task v = rw (delayed (task_operation task)) refl
 
 -- ---- a test that lets pass or refuses
 
@@ -237,7 +229,7 @@ unfolding configure-on configure_then written ◌>>=◌ ◌>>◌
 configures-on s within before = rw (same-wanted s before)
     (by_cases (same_configuration (wanted-of s.config before) before)
     (λ h. rw h (configures s before within))
-    (λ h. rw h (then-assoc (write-register _ _) _ (configured s before within) ∙ registers s _ _ (RegisterFor.Configure (configuration_byte before) within))))
+    (λ h. rw h (then-assoc (write-register _ _) _ (configured s before within) ∙ registers s _ _ (RegisterFor.Configure before within))))
 
 checks-configured : (s : Setup) (before : Configuration) (within : Bool) (after : Configuration) →
     check-configured s before after >> configured s before within ≡ tree meaning (decide (check_configuration s before within after))
@@ -255,7 +247,7 @@ unfolding unprotect-on unprotect_then written ◌>>=◌ ◌>>◌
 unprotects-on s within before =
     by_cases (is_unlocked before)
     (λ h. rw h (unprotects s before within))
-    (λ h. rw h (registers s REG-BLOCK-PROTECTION 0 (RegisterFor.Unprotect (protection_byte before) within)))
+    (λ h. rw h (registers s REG-BLOCK-PROTECTION 0 (RegisterFor.Unprotect before within)))
 
 disables-on : (s : Setup) (before : Configuration) → disable-on s before ≡ tree meaning (decide (disable_quad s before))
 unfolding disable-on disable_quad written ◌>>=◌ ◌>>◌
@@ -273,7 +265,7 @@ unfolding written written_then meaning_at answered read-configuration ◌>>=◌ 
 writes-on s RegisterFor.Call = refl
 writes-on s (RegisterFor.Configure before within) = refl
 writes-on s RegisterFor.DisableQuad = refl
-writes-on s (RegisterFor.Unprotect before within) = unprotects s (protection_of before) within
+writes-on s (RegisterFor.Unprotect before within) = unprotects s before within
 
 identifies : (s : Setup) (id : NandJedecId) → identified s id ≡ tree meaning (decide (identified_then s id))
 unfolding identified identified_then meaning_at answered read-configuration ◌>>=◌ ◌>>◌
@@ -417,7 +409,7 @@ module _ (s : Setup) (valid : in_bounds s.geometry ≡ true) where
   judges-task (Task.Program why) status = programs-on why status
   judges-task (Task.Erase why) status = erases-on why status
 
-  looks : (task : Task) (waited v : ℕ) → meaning_at s (Phase.Waiting task WaitStep.Look waited) v ≡ tree meaning (decide (after_phase s (Phase.Waiting task WaitStep.Look waited) v))
+  looks : (task : Task) (waited v : ℕ) → meaning_at s (Phase.Waiting task (WaitStep.Look waited)) v ≡ tree meaning (decide (after_phase s (Phase.Waiting task (WaitStep.Look waited)) v))
   unfolding meaning_at after_phase waiting_then wait_then next_wait looked ◌>>=◌ ◌>>◌
   looks task waited v =
       let t = timings_of (task_operation task) in
@@ -444,7 +436,7 @@ module _ (s : Setup) (valid : in_bounds s.geometry ≡ true) where
   answers Asked.Protection v = refl
   answers (Asked.Id within) v = identifies-within s within (id_of v)
   answers (Asked.Configure within) v = configures-on s within (configuration_of (v % 256))
-  answers (Asked.Configured before within) v = checks-configured s (configuration_of before) within (configuration_of (v % 256))
+  answers (Asked.Configured before within) v = checks-configured s before within (configuration_of (v % 256))
   answers (Asked.Unprotect within) v = unprotects-on s within (protection_of (v % 256))
   answers Asked.BroughtUp v = refl
   answers Asked.DisableQuad v = disables-on s (configuration_of (v % 256))
@@ -462,10 +454,10 @@ module _ (s : Setup) (valid : in_bounds s.geometry ≡ true) where
   follows (Phase.Asking asked) v = answers asked v
   follows (Phase.Enabling why EnableStep.Command) v = refl
   follows (Phase.Enabling why EnableStep.Latch) v = latches s why v (enables-on why)
-  follows (Phase.Waiting task WaitStep.Command waited) v = sent s task waited v
-  follows (Phase.Waiting task WaitStep.Look waited) v = looks task waited v
-  follows (Phase.Waiting task WaitStep.Pause waited) v = waits s task waited
-  follows (Phase.Waiting task WaitStep.Verdict waited) v = judges-task task (status_of (v % 256))
+  follows (Phase.Waiting task WaitStep.Command) v = sent s task v
+  follows (Phase.Waiting task (WaitStep.Look waited)) v = looks task waited v
+  follows (Phase.Waiting task (WaitStep.Pause waited)) v = waits s task waited
+  follows (Phase.Waiting task WaitStep.Verdict) v = judges-task task (status_of (v % 256))
   follows Phase.ReadingCache v = refl
   follows Phase.Comparing v = compares s v
   follows (Phase.ReadingMarker why) v = markers why v

@@ -37,11 +37,11 @@ look setup phase = go_to setup (register_transfer REG-STATUS) phase
 
 -- "A load's verdict is that of the status read after its wait has ended", and likewise a program's and an erase's
 abbrev pub verdict : Setup → Task → Then
-verdict setup task = look setup (Phase.Waiting task WaitStep.Verdict 0)
+verdict setup task = look setup (Phase.Waiting task WaitStep.Verdict)
 
 -- a command that is waited for
 abbrev pub send : Setup → Command → Task → Then
-send setup command task = go_to setup (Transfer.Framed command Body.None) (Phase.Waiting task WaitStep.Command 0)
+send setup command task = go_to setup (Transfer.Framed command Body.None) (Phase.Waiting task WaitStep.Command)
 
 -- reset
 abbrev pub reset : Setup → ResetFor → Then

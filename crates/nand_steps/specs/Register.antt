@@ -6,7 +6,7 @@ use Rattle.qspi.specs.Choice.{pick}
 use Rattle.spi_flash.specs.declared.error.FlashError.{FlashError}
 use Rattle.spi_nand.specs.Config.{from_jedec}
 use Rattle.spi_nand.specs.Opcode.{REG-CONFIGURATION, REG-BLOCK-PROTECTION}
-use Rattle.spi_nand.specs.Status.{ECC-ENABLE, BUFFER-READ, QUAD-ENABLE, OPERATIONAL, configuration_byte, protection_of, protection_byte, quad_enabled_of, with_bits, same_configuration, is_unlocked}
+use Rattle.spi_nand.specs.Status.{ECC-ENABLE, BUFFER-READ, QUAD-ENABLE, OPERATIONAL, configuration_byte, quad_enabled_of, with_bits, same_configuration, is_unlocked}
 use Rattle.spi_nand.specs.declared.config.NandGeometry.{NandGeometry}
 use Rattle.spi_nand.specs.declared.config.NandJedecId.{NandJedecId}
 use Rattle.spi_nand.specs.declared.config.SpiNandConfig.{SpiNandConfig}
@@ -69,7 +69,7 @@ configured_then setup before true = ask (with_before setup before) REG-BLOCK-PRO
 unfoldable pub configure_then : Setup → Configuration → Bool → Then
 configure_then setup before bring_up =
     pick (same_configuration (wanted_for setup.config before) before) (configured_then setup before bring_up)
-    (enable setup (EnableFor.Register REG-CONFIGURATION (configuration_byte (wanted_for setup.config before)) (RegisterFor.Configure (configuration_byte before) bring_up)))
+    (enable setup (EnableFor.Register REG-CONFIGURATION (configuration_byte (wanted_for setup.config before)) (RegisterFor.Configure before bring_up)))
 
 -- `if self.read_configuration()? != wanted`
 unfoldable pub check_configuration : Setup → Configuration → Bool → Configuration → Then
@@ -85,7 +85,7 @@ unprotected_then setup before true = ask (with_protection setup before) REG-CONF
 unfoldable pub unprotect_then : Setup → Protection → Bool → Then
 unprotect_then setup before bring_up =
     pick (is_unlocked before) (unprotected_then setup before bring_up)
-    (enable setup (EnableFor.Register REG-BLOCK-PROTECTION 0 (RegisterFor.Unprotect (protection_byte before) bring_up)))
+    (enable setup (EnableFor.Register REG-BLOCK-PROTECTION 0 (RegisterFor.Unprotect before bring_up)))
 
 -- ---- disable_quad
 
@@ -104,4 +104,4 @@ unfoldable pub written_then : Setup → RegisterFor → Then
 written_then setup RegisterFor.Call = done setup
 written_then setup (RegisterFor.Configure before bring_up) = ask setup REG-CONFIGURATION (Asked.Configured before bring_up)
 written_then setup RegisterFor.DisableQuad = ask setup REG-CONFIGURATION Asked.QuadDisabled
-written_then setup (RegisterFor.Unprotect before bring_up) = unprotected_then setup (protection_of before) bring_up
+written_then setup (RegisterFor.Unprotect before bring_up) = unprotected_then setup before bring_up

@@ -61,7 +61,6 @@ pub fn verdict(setup: Setup, task: Task) -> Then
         Phase::Waiting {
             task,
             at: WaitStep::Verdict,
-            waited: 0,
         },
     )
 }
@@ -76,7 +75,6 @@ pub fn send(setup: Setup, command: Command, task: Task) -> Then
         Phase::Waiting {
             task,
             at: WaitStep::Command,
-            waited: 0,
         },
     )
 }

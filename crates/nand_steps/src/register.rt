@@ -25,7 +25,7 @@ pub fn id_of(v: u64) -> NandJedecId
     NandJedecId::from_bytes([manufacturer, high, low])
 }
 
-// The caller's own geometry stays; else it is that of the id.
+// The caller's own geometry stays; else it is that of the id. The NOR's device likewise: each type and lookup is another.
 #[tactic(auto, unfolding(crate::specs::Register::geometry_for))]
 fn geometry_for(setup: Setup, id: NandJedecId) -> NandGeometry
     ensures { result ≡ geometry_for setup id }
@@ -36,22 +36,24 @@ fn geometry_for(setup: Setup, id: NandJedecId) -> NandGeometry
     }
 }
 
-// bring_up, once the id has been read. A page that is too large is refused before anything is written to the part.
+// bring_up, once the id has been read. A page that is too large is refused before anything is written to the part. The NOR's tests its
+// page alike, and says why there is no common form.
 #[tactic(auto, unfolding(crate::specs::Register::identified_then))]
 pub fn identified(setup: Setup, id: NandJedecId) -> Then
     ensures { result ≡ identified_then setup id }
 {
     let geometry = geometry_for(setup, id);
-    if geometry.page_size <= MAX_VERIFY_PAGE_SIZE {
-        return go::ask(
-            setup.identified_as(geometry, id),
-            opcode::REG_CONFIGURATION,
-            Asked::Configure { bring_up: true },
-        );
+    if geometry.page_size > MAX_VERIFY_PAGE_SIZE {
+        return Err(FlashError::NotSupported);
     }
-    Err(FlashError::NotSupported)
+    go::ask(
+        setup.identified_as(geometry, id),
+        opcode::REG_CONFIGURATION,
+        Asked::Configure { bring_up: true },
+    )
 }
 
+// A register and its value are two, as in the Rust's write_register.
 fn write_register(setup: Setup, register: u8, value: u8, why: RegisterFor) -> Then
     ensures { result ≡ enable setup (EnableFor.Register register value why) }
 {
@@ -96,10 +98,7 @@ pub fn configure(setup: Setup, before: Configuration, bring_up: bool) -> Then
         setup,
         opcode::REG_CONFIGURATION,
         after.byte(),
-        RegisterFor::Configure {
-            before: before.byte(),
-            bring_up,
-        },
+        RegisterFor::Configure { before, bring_up },
     )
 }
 
@@ -147,10 +146,7 @@ pub fn unprotect(setup: Setup, before: Protection, bring_up: bool) -> Then
         setup,
         opcode::REG_BLOCK_PROTECTION,
         0x00,
-        RegisterFor::Unprotect {
-            before: before.byte(),
-            bring_up,
-        },
+        RegisterFor::Unprotect { before, bring_up },
     )
 }
 
@@ -220,8 +216,6 @@ pub fn written(setup: Setup, why: RegisterFor) -> Then
         RegisterFor::DisableQuad => {
             go::ask(setup, opcode::REG_CONFIGURATION, Asked::QuadDisabled)
         }
-        RegisterFor::Unprotect { before, bring_up } => {
-            unprotected(setup, Protection::from_byte(before), bring_up)
-        }
+        RegisterFor::Unprotect { before, bring_up } => unprotected(setup, before, bring_up),
     }
 }

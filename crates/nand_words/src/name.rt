@@ -14,7 +14,10 @@ use trace_words::request::Form;
 // The largest numbers that are passed on: a register and its value are bytes.
 const BYTE_MOST: u64 = 255;
 
-const WORD_MOST: u64 = 18446744073709551615;
+// How many bytes there are. A larger number is cut to 8 bits; no case passes one on (`most`).
+const BYTES: u64 = BYTE_MOST + 1;
+
+const WORD_MOST: u64 = u64::MAX;
 
 // The calls without their numbers and settings, which stand elsewhere in a case: `new` is `with_config` at the settings above, and
 // `new_single` is `new`.
@@ -49,7 +52,7 @@ pub enum Name {
     MarkBadBlock,
 }
 
-// As they are written in a case.
+// As they are written in a case: a table and no match, since what searches it is one function for both drivers, proved once.
 const NAMES: [(&[u8], Name); 27] = [
     (b"new", Name::New),
     (b"new_single", Name::NewSingle),
@@ -183,8 +186,8 @@ impl Words for Name {
             Name::EnsureConfiguration => Call::EnsureConfiguration,
             Name::Unprotect => Call::Unprotect,
             Name::WriteRegister => Call::WriteRegister {
-                register: first as u8,
-                value: second as u8,
+                register: (first % BYTES) as u8,
+                value: (second % BYTES) as u8,
             },
             Name::ReadCache => Call::ReadCache { column: n },
             Name::ReadPage => Call::ReadPage { page: n },

@@ -43,7 +43,7 @@ after_phase setup (Phase.UnprotectRead2 before) v = unprotect_first setup before
 after_phase setup (Phase.UnprotectAfter before) v = end_with setup (Answer.Unprotected before (byte_of v))
 after_phase setup (Phase.Reading s) v = read_from setup s.offset s.len (s.done + chunk_of s.len s.done)
 after_phase setup (Phase.Verifying s) v = verified_then setup s.offset s.len s.done v
-after_phase setup (Phase.Writing task at waited) v = writing_then setup task at waited (byte_of v)
+after_phase setup (Phase.Writing task at) v = writing_then setup task at (byte_of v)
 
 -- a bus error ends the call: `map_err(FlashError::Spi)?`
 unfoldable pub next_of : Setup → Phase → Outcome → Then

@@ -20,12 +20,12 @@ use Rattle.nor_pages.specs.Erase.{erase_from}
 
 -- write_enable: the look at its latch
 abbrev pub latch_then : Setup → Task → Then
-latch_then setup task = read1_then setup (Phase.Writing task WriteStep.Latch 0)
+latch_then setup task = read1_then setup (Phase.Writing task WriteStep.Latch)
 
 -- write_enable: `if self.read_status1()? & status::WRITE_ENABLE_LATCH == 0`, and the command behind it
 unfoldable pub latched_then : Setup → Task → ℕ → Then
 latched_then setup task status1 =
-    pick (write_enabled_of status1) (go_to setup (task_transfer setup task) (Phase.Writing task WriteStep.Command 0)) (Err FlashError.WriteEnableFailed)
+    pick (write_enabled_of status1) (go_to setup (task_transfer setup task) (Phase.Writing task WriteStep.Command)) (Err FlashError.WriteEnableFailed)
 
 -- what stands behind `self.wait_ready(..)?` of each
 unfoldable pub resume_task : Setup → Task → Then
@@ -40,11 +40,11 @@ resume_task setup (Task.Erase kind address end) = erase_from setup (after_unit s
 
 -- wait_ready: `self.read_status1()?`
 abbrev pub look_then : Setup → Task → ℕ → Then
-look_then setup task waited = read1_then setup (Phase.Writing task WriteStep.Look waited)
+look_then setup task waited = read1_then setup (Phase.Writing task (WriteStep.Look waited))
 
 -- wait_ready: `self.delay.delay_us(..)`
 abbrev pub pause_then : Setup → Task → ℕ → ℕ → Then
-pause_then setup task us waited = go_to setup (Transfer.Pause us) (Phase.Writing task WriteStep.Pause waited)
+pause_then setup task us waited = go_to setup (Transfer.Pause us) (Phase.Writing task (WriteStep.Pause waited))
 
 -- wait_ready: a step of it
 unfoldable pub wait_then : Setup → Task → Wait → Then
@@ -61,9 +61,9 @@ abbrev pub looked_then : Setup → Task → ℕ → ℕ → Then
 looked_then setup task waited status1 = wait_then setup task (next_wait (timings_of (task_operation task)) waited (busy_of status1))
 
 -- what follows each step; the status is looked at only behind a look
-unfoldable pub writing_then : Setup → Task → WriteStep → ℕ → ℕ → Then
-writing_then setup task WriteStep.Enable waited status1 = latch_then setup task
-writing_then setup task WriteStep.Latch waited status1 = latched_then setup task status1
-writing_then setup task WriteStep.Command waited status1 = sent_then setup task
-writing_then setup task WriteStep.Look waited status1 = looked_then setup task waited status1
-writing_then setup task WriteStep.Pause waited status1 = look_then setup task waited
+unfoldable pub writing_then : Setup → Task → WriteStep → ℕ → Then
+writing_then setup task WriteStep.Enable status1 = latch_then setup task
+writing_then setup task WriteStep.Latch status1 = latched_then setup task status1
+writing_then setup task WriteStep.Command status1 = sent_then setup task
+writing_then setup task (WriteStep.Look waited) status1 = looked_then setup task waited status1
+writing_then setup task (WriteStep.Pause waited) status1 = look_then setup task waited

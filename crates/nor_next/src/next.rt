@@ -45,7 +45,7 @@ fn after(setup: Setup, phase: Phase, v: u64) -> Then
         Phase::UnprotectAfter(before) => protection::unprotected(setup, before, b),
         Phase::Reading(span) => read::piece_read(setup, span),
         Phase::Verifying(span) => write::verified(setup, span, v),
-        Phase::Writing { task, at, waited } => wait::writing(setup, task, at, waited, b),
+        Phase::Writing { task, at } => wait::writing(setup, task, at, b),
     }
 }
 

@@ -24,12 +24,12 @@ fn latch(setup: Setup, task: Task) -> Then
         Phase::Writing {
             task,
             at: WriteStep::Latch,
-            waited: 0,
         },
     )
 }
 
-// write_enable has been sent: the command goes out where the latch is set.
+// write_enable has been sent: the command goes out where the latch is set. The NAND's latch is alike, over another register, phase
+// and end.
 #[tactic(auto, unfolding(crate::specs::Wait::latched_then))]
 fn latched(setup: Setup, task: Task, status1: u8) -> Then
     ensures { result ≡ latched_then setup task status1 }
@@ -41,7 +41,6 @@ fn latched(setup: Setup, task: Task, status1: u8) -> Then
             Phase::Writing {
                 task,
                 at: WriteStep::Command,
-                waited: 0,
             },
         );
     }
@@ -82,8 +81,7 @@ fn look(setup: Setup, task: Task, waited: u32) -> Then
         setup,
         Phase::Writing {
             task,
-            at: WriteStep::Look,
-            waited,
+            at: WriteStep::Look(waited),
         },
     )
 }
@@ -96,8 +94,7 @@ fn pause(setup: Setup, task: Task, us: u32, waited: u32) -> Then
         Transfer::Pause(us),
         Phase::Writing {
             task,
-            at: WriteStep::Pause,
-            waited,
+            at: WriteStep::Pause(waited),
         },
     )
 }
@@ -142,14 +139,14 @@ fn looked(setup: Setup, task: Task, waited: u32, status1: u8) -> Then
 
 // What follows each step of a task. The status is looked at only behind a look.
 #[tactic(auto, unfolding(crate::specs::Wait::writing_then))]
-pub fn writing(setup: Setup, task: Task, at: WriteStep, waited: u32, status1: u8) -> Then
-    ensures { result ≡ writing_then setup task at waited status1 }
+pub fn writing(setup: Setup, task: Task, at: WriteStep, status1: u8) -> Then
+    ensures { result ≡ writing_then setup task at status1 }
 {
     match at {
         WriteStep::Enable => latch(setup, task),
         WriteStep::Latch => latched(setup, task, status1),
         WriteStep::Command => sent(setup, task),
-        WriteStep::Look => looked(setup, task, waited, status1),
-        WriteStep::Pause => look(setup, task, waited),
+        WriteStep::Look(waited) => looked(setup, task, waited, status1),
+        WriteStep::Pause(waited) => look(setup, task, waited),
     }
 }

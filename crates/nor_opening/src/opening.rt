@@ -19,7 +19,7 @@ fn given_device(config: SpiNorConfig) -> NorDeviceInfo
     config.device.unwrap_or(NorDeviceInfo::W25Q128JV)
 }
 
-// What the driver holds before the id is known. The NAND's differs in each type and constant.
+// What the driver holds before the id is known: the Rust's zeros, in place of a None. The NAND's differs in each type and constant.
 pub fn fresh(config: SpiNorConfig) -> Setup
     ensures { result ≡ fresh_setup config }
 {

@@ -1,4 +1,4 @@
-// erase, unit by unit, and both single erases.
+// erase, unit by unit, and both single erases. Address and end stay two, as in the Rust: each is compared or passed on at once.
 ghost use Rattle.std.specs.Prelude.{◌≡◌};
 ghost use Rattle.nor_pages.specs.Erase.{erase_unit, erase_from, erase_then, erase_one};
 
@@ -20,10 +20,10 @@ pub fn erase_unit(setup: Setup, kind: EraseKind, address: u32, end: u32) -> Then
     if !range::range_in_bounds(setup.device.capacity, address as usize, size) {
         return Err(FlashError::OutOfBounds);
     }
-    if (address as usize).is_multiple_of(size) {
-        return go::enabled(setup, Task::Erase { kind, address, end });
+    if !(address as usize).is_multiple_of(size) {
+        return Err(FlashError::NotAligned);
     }
-    Err(FlashError::NotAligned)
+    go::enabled(setup, Task::Erase { kind, address, end })
 }
 
 // The next step of `erase`, or its end.
@@ -51,10 +51,10 @@ pub fn erase_then(setup: Setup, from: u32, to: u32) -> Then
     if from > to || to as usize > setup.device.capacity {
         return Err(FlashError::OutOfBounds);
     }
-    if (from as usize).is_multiple_of(sector) && (to as usize).is_multiple_of(sector) {
-        return erase_from(setup, from, to);
+    if !(from as usize).is_multiple_of(sector) || !(to as usize).is_multiple_of(sector) {
+        return Err(FlashError::NotAligned);
     }
-    Err(FlashError::NotAligned)
+    erase_from(setup, from, to)
 }
 
 // A sector or block for itself.

@@ -39,17 +39,10 @@ pub fn read_from(setup: Setup, span: Span<u32>) -> Then
 pub fn read_then(setup: Setup, offset: u32, len: usize) -> Then
     ensures { result ≡ read_then setup offset len }
 {
-    if range::range_in_bounds(setup.device.capacity, offset as usize, len) {
-        return read_from(
-            setup,
-            Span {
-                offset,
-                len,
-                done: 0,
-            },
-        );
+    if !range::range_in_bounds(setup.device.capacity, offset as usize, len) {
+        return Err(FlashError::OutOfBounds);
     }
-    Err(FlashError::OutOfBounds)
+    read_from(setup, Span::whole(offset, len))
 }
 
 // `done += length`

@@ -31,17 +31,18 @@ pub fn verify(setup: Setup, span: Span<u32>) -> Then
 {
     let n = transfer::page_chunk(setup.device, span);
     let at = transfer::place(span);
-    if range::range_in_bounds(setup.device.capacity, at as usize, n) {
-        return go::go(
-            setup,
-            transfer::read_transfer(setup, at, n, Sink::Compare(span.done)),
-            Phase::Verifying(span),
-        );
+    if !range::range_in_bounds(setup.device.capacity, at as usize, n) {
+        return Err(FlashError::OutOfBounds);
     }
-    Err(FlashError::OutOfBounds)
+    go::go(
+        setup,
+        transfer::read_transfer(setup, at, n, Sink::Compare(span.done)),
+        Phase::Verifying(span),
+    )
 }
 
-// The comparison's number, 0 where the bytes differ: a transfer's value is a number, and only here is it a yes or no.
+// The comparison's number, 0 where the bytes differ: what a transfer gives is a number, also here. (The NAND's `compared` likewise, with
+// another end.)
 #[tactic(auto, unfolding(crate::specs::Write::verified_then))]
 pub fn verified(setup: Setup, span: Span<u32>, same: u64) -> Then
     ensures { result ≡ verified_then setup span.offset span.len span.done same }
@@ -61,15 +62,8 @@ pub fn write_then(setup: Setup, offset: u32, len: usize) -> Then
     if !range::range_in_bounds(setup.device.capacity, offset as usize, len) {
         return Err(FlashError::OutOfBounds);
     }
-    if (offset as usize).is_multiple_of(page) && len.is_multiple_of(page) {
-        return program_from(
-            setup,
-            Span {
-                offset,
-                len,
-                done: 0,
-            },
-        );
+    if !(offset as usize).is_multiple_of(page) || !len.is_multiple_of(page) {
+        return Err(FlashError::NotAligned);
     }
-    Err(FlashError::NotAligned)
+    program_from(setup, Span::whole(offset, len))
 }

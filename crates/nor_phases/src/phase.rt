@@ -42,8 +42,9 @@ pub enum WriteStep {
     Enable,
     Latch,
     Command,
-    Look,
-    Pause,
+    // Look and Pause: the microseconds asked so far.
+    Look(u32),
+    Pause(u32),
 }
 
 #[derive(Clone, Copy)]
@@ -80,9 +81,5 @@ pub enum Phase {
     Reading(Span<u32>),
     Verifying(Span<u32>),
     // write_enable, the command, and wait_ready
-    Writing {
-        task: Task,
-        at: WriteStep,
-        waited: u32,
-    },
+    Writing { task: Task, at: WriteStep },
 }

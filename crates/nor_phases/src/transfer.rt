@@ -30,13 +30,12 @@ pub fn chunk(span: Span<u32>) -> usize
     range::piece(opcode::MAX_BULK_LEN, span.len, span.done)
 }
 
-// Where the call stands after that piece. What it shares with a page's and the NAND's is `range::past_piece`.
+// Where the call stands after that piece.
 #[tactic(auto, unfolding(crate::specs::Transfer::chunk_of))]
 pub fn past_chunk(s: Span<u32>) -> Span<u32>
     ensures { result ≡ span s.offset s.len (s.done + chunk_of s.len s.done) }
 {
-    let done = range::past_piece(opcode::MAX_BULK_LEN, s.len, s.done);
-    Span { done, ..s }
+    s.past(opcode::MAX_BULK_LEN)
 }
 
 // The bytes of the next page of `write`.
@@ -52,8 +51,7 @@ pub fn page_chunk(device: NorDeviceInfo, span: Span<u32>) -> usize
 pub fn past_page(device: NorDeviceInfo, s: Span<u32>) -> Span<u32>
     ensures { result ≡ span s.offset s.len (s.done + page_of device s.len s.done) }
 {
-    let done = range::past_piece(device.page_size, s.len, s.done);
-    Span { done, ..s }
+    s.past(device.page_size)
 }
 
 // Both widths stand here, and in the NAND's transfers likewise: a common form would take both commands, the timing and the margin
@@ -132,6 +130,7 @@ pub fn task_transfer(setup: Setup, task: Task) -> Transfer
     }
 }
 
+// The Rust's write_status1 and write_status2. What they share is command_only.
 fn write_status1(value: u8) -> Transfer
     ensures { result ≡ command_only (write_status1_command value) }
 {
@@ -173,7 +172,7 @@ pub fn unit_size(device: NorDeviceInfo, kind: EraseKind) -> usize
     }
 }
 
-// erase_step: a whole block where one fits, else a sector. Here and in `erase` address and end stay two: each is compared or passed on at once.
+// erase_step: a whole block where one fits, else a sector. Address and end stay two, as in `erase`.
 #[tactic(auto, unfolding(crate::specs::Transfer::step_kind, crate::specs::Transfer::multiple_of))]
 pub fn step_kind(device: NorDeviceInfo, address: u32, end: u32) -> EraseKind
     ensures { result ≡ step_kind device address end }

@@ -13,9 +13,15 @@ use std::io;
 // A construction without quad mode gives out five actions; the line of the end is the sixth.
 const LINES_MOST: u32 = 6;
 
+// One byte more than the longest tape, to tell a longer one.
+const INPUT_LEN: usize = 65537;
+
+// No line of a construction is longer.
+const LINE_MOST: usize = 64;
+
 fn main(rt: HostRuntime) -> io::Result<()> {
-    // An array of fixed size, as there is no heap: one byte more than the longest tape, to tell a longer one.
-    let mut input = [0u8; 65537];
+    // Arrays of fixed size, as there is no heap.
+    let mut input = [0u8; INPUT_LEN];
     let n = streams::read_full(&rt, &mut input)?;
     let tape = bytes::delivered(&input, n);
     let mut lent = Loan {
@@ -23,7 +29,7 @@ fn main(rt: HostRuntime) -> io::Result<()> {
         buffer: &mut [],
         data: &[],
     };
-    let mut out = [0u8; 64];
+    let mut out = [0u8; LINE_MOST];
     let mut now = program::begin(tape, lent.scratch);
     for _ in 0..LINES_MOST {
         let mut line = Writer::new(&mut out);

@@ -2,11 +2,11 @@
 use Rattle.std.specs.Prelude.{Option, Some, None}
 use Rattle.spi_nor.specs.declared.config.NorQuadConfig.{NorQuadConfig}
 use Prim.Native.Nat.{ℕ, ◌+◌}
-use mathlib.Core.Bool.{Bool, true, false, not}
+use mathlib.Core.Bool.{true, not}
 use mathlib.Core.Path.{◌≡◌, refl}
 use lib.Dec.{ltb, leb, eqb}
 use Rattle.std.specs.Prelude.{Err}
-use Rattle.qspi.specs.Choice.{pick}
+use Rattle.qspi.proofs.Cases.{keeps-pick}
 use Rattle.spi_flash.specs.Wait.{first_wait, next_wait}
 use Rattle.spi_flash.specs.Machine.{Onward}
 use Rattle.spi_flash.specs.declared.wait.Wait.{Wait}
@@ -37,11 +37,6 @@ use Rattle.spi_flash.specs.declared.error.FlashError.{FlashError}
 use Rattle.nor_phases.specs.declared.setup.Setup.{Setup}
 use Rattle.nor_steps.specs.Then.{Then}
 use Rattle.nor_runs.proofs.Places.{decide, Valid, Built, Stays}
-
--- a test between two ways of going on
-pub keeps-pick : (R : Then → Type 0) (b : Bool) (x y : Then) → R x → R y → R (pick b x y)
-keeps-pick R true x y h k = h
-keeps-pick R false x y h k = k
 
 -- what holds of every step of a call on a built driver that holds s
 pub record Passes (R : Then → Type 0) (s : Setup) : Type 0 where
@@ -136,11 +131,11 @@ module _ (R : Then → Type 0) (s : Setup) (passes : Passes R s) where
   keeps-built (Phase.UnprotectAfter before) h v = passes.end _
   keeps-built (Phase.Reading p) h v = keeps-read p.offset p.len (p.done + chunk_of p.len p.done)
   keeps-built (Phase.Verifying p) h v = keeps-verified p.offset p.len p.done v
-  keeps-built (Phase.Writing task WriteStep.Enable waited) h v = passes.go _ _ tt
-  keeps-built (Phase.Writing task WriteStep.Latch waited) h v = keeps-latched task (byte_of v)
-  keeps-built (Phase.Writing task WriteStep.Command waited) h v = keeps-wait task (first_wait (timings_of (task_operation task)))
-  keeps-built (Phase.Writing task WriteStep.Look waited) h v = keeps-wait task (next_wait (timings_of (task_operation task)) waited (busy_of (byte_of v)))
-  keeps-built (Phase.Writing task WriteStep.Pause waited) h v = passes.go _ _ tt
+  keeps-built (Phase.Writing task WriteStep.Enable) h v = passes.go _ _ tt
+  keeps-built (Phase.Writing task WriteStep.Latch) h v = keeps-latched task (byte_of v)
+  keeps-built (Phase.Writing task WriteStep.Command) h v = keeps-wait task (first_wait (timings_of (task_operation task)))
+  keeps-built (Phase.Writing task (WriteStep.Look waited)) h v = keeps-wait task (next_wait (timings_of (task_operation task)) waited (busy_of (byte_of v)))
+  keeps-built (Phase.Writing task (WriteStep.Pause waited)) h v = passes.go _ _ tt
 
 -- ---- the device stays within the bounds
 
@@ -191,4 +186,4 @@ module _ (s : Setup) (valid : in_bounds_of s.device ≡ true) where
   keeps (Phase.UnprotectAfter before) v = going (Phase.UnprotectAfter before) tt v
   keeps (Phase.Reading p) v = going (Phase.Reading p) tt v
   keeps (Phase.Verifying p) v = going (Phase.Verifying p) tt v
-  keeps (Phase.Writing task at waited) v = going (Phase.Writing task at waited) tt v
+  keeps (Phase.Writing task at) v = going (Phase.Writing task at) tt v

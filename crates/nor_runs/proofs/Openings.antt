@@ -14,7 +14,7 @@ use Rattle.spi_flash.proofs.Laws.{then-assoc}
 use Rattle.spi_flash.specs.Prog.{Prog, ret, ask, ◌>>=◌, ◌>>◌, refuse}
 use Rattle.spi_flash.specs.Machine.{tree}
 use Rattle.spi_flash.specs.declared.loan.Takes.{Takes}
-use Rattle.qspi.proofs.Cases.{by_cases}
+use Rattle.qspi.proofs.Cases.{by_cases, keeps-pick}
 use Rattle.flash_runs.specs.Driver.{constructs, uses}
 use Rattle.flash_runs.proofs.General as General
 use Rattle.flash_runs.proofs.Supplies.{Selects, SelectsFirst, Construction, Use, OpensAs, onward-stays}
@@ -41,7 +41,7 @@ use Rattle.nor_steps.specs.Go.{go_to}
 use Rattle.nor_steps.specs.Then.{Then}
 use Rattle.nor_runs.proofs.Loops.{erasing-loop}
 use Rattle.nor_runs.proofs.Places.{place, decide, nor_parts, Valid, Built, Stays}
-use Rattle.nor_runs.proofs.Keeps.{stays, keeps-read, keeps-program, keeps-unit, keeps-erase, keeps-pick}
+use Rattle.nor_runs.proofs.Keeps.{stays, keeps-read, keeps-program, keeps-unit, keeps-erase}
 use Rattle.nor_runs.proofs.Simulation.{meaning, starts, reads_on, writes-on, erases-unit, erases-on, beginnings}
 
 -- ---- the Rust's tests before the bus

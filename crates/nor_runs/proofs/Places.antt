@@ -63,7 +63,7 @@ Built (Phase.UnprotectRead2 before) = Unit {0}
 Built (Phase.UnprotectAfter before) = Unit {0}
 Built (Phase.Reading p) = Unit {0}
 Built (Phase.Verifying p) = Unit {0}
-Built (Phase.Writing task at waited) = Unit {0}
+Built (Phase.Writing task at) = Unit {0}
 
 -- the driver holds what it held when the call began, and the call is no construction
 abbrev pub Stays : Setup → Then → Type 0

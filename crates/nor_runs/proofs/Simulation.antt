@@ -2,7 +2,7 @@
 use Rattle.spi_nor.specs.declared.config.NorQuadConfig.{NorQuadConfig}
 use Prim.Native.Nat.{ℕ, ◌+◌}
 use mathlib.Core.Bool.{Bool, true, not}
-use mathlib.Core.Path.{◌≡◌, refl, ap, sym, ◌∙◌, fun_ext}
+use mathlib.Core.Path.{◌≡◌, refl, ap, sym, ◌∙◌}
 use lib.Dec.{ltb, leb, eqb}
 use borrow.Author.Tests.{leb-true, leb-false, le-ltb, lt-ltb}
 use Rattle.qspi.specs.Transfer.{command_only}
@@ -15,7 +15,7 @@ use Rattle.spi_flash.specs.Machine.{more, tree, Simulates}
 use Rattle.spi_flash.specs.declared.error.FlashError.{FlashError}
 use Rattle.spi_flash.specs.declared.wait.Wait.{Wait}
 use Rattle.qspi.proofs.Cases.{by_cases}
-use Rattle.spi_flash.proofs.Laws.{then-assoc}
+use Rattle.spi_flash.proofs.Laws.{bind_assoc, then-assoc}
 use Rattle.spi_flash.proofs.Waiting.{wait-in-general}
 use Rattle.flash_runs.proofs.Looking.{looked, no_wrap}
 use Rattle.spi_nor.specs.Opcode.{timings_of}
@@ -172,11 +172,11 @@ meaning_at s (Phase.UnprotectRead2 before) v =
 meaning_at s (Phase.UnprotectAfter before) v = told s (record { before = before; after = byte_of v })
 meaning_at s (Phase.Reading p) v = reading s p.offset p.len (p.done + chunk_of p.len p.done) >> DONE s
 meaning_at s (Phase.Verifying p) v = (verified v >> writing s p.offset p.len (p.done + page_of s.device p.len p.done)) >> DONE s
-meaning_at s (Phase.Writing task WriteStep.Enable waited) v = context s task ((read-status1 >>= latch) >> (transfer (task_transfer s task) >> wait_of task))
-meaning_at s (Phase.Writing task WriteStep.Latch waited) v = context s task (latch (byte_of v) >> (transfer (task_transfer s task) >> wait_of task))
-meaning_at s (Phase.Writing task WriteStep.Command waited) v = context s task (wait_of task)
-meaning_at s (Phase.Writing task WriteStep.Look waited) v = context s task (looked read_status1_command busy_value (timings_of (task_operation task)) waited v)
-meaning_at s (Phase.Writing task WriteStep.Pause waited) v = context s task (waiting read_status1_command busy_value (timings_of (task_operation task)) waited)
+meaning_at s (Phase.Writing task WriteStep.Enable) v = context s task ((read-status1 >>= latch) >> (transfer (task_transfer s task) >> wait_of task))
+meaning_at s (Phase.Writing task WriteStep.Latch) v = context s task (latch (byte_of v) >> (transfer (task_transfer s task) >> wait_of task))
+meaning_at s (Phase.Writing task WriteStep.Command) v = context s task (wait_of task)
+meaning_at s (Phase.Writing task (WriteStep.Look waited)) v = context s task (looked read_status1_command busy_value (timings_of (task_operation task)) waited v)
+meaning_at s (Phase.Writing task (WriteStep.Pause waited)) v = context s task (waiting read_status1_command busy_value (timings_of (task_operation task)) waited)
 
 abbrev pub meaning : Place → ℕ → Prog Left
 meaning s v = meaning_at s.setup s.phase v
@@ -206,14 +206,14 @@ through s (Task.PageProgram p) e = refl
 through s (Task.Erase kind address end) e = refl
 
 -- a task begins with its write enable
-enables : (s : Setup) (task : Task) → context s task (sends s task) ≡ tree meaning (more (command_only write_enable_command) (place s (Phase.Writing task WriteStep.Enable 0)))
+enables : (s : Setup) (task : Task) → context s task (sends s task) ≡ tree meaning (more (command_only write_enable_command) (place s (Phase.Writing task WriteStep.Enable)))
 unfolding meaning_at write-enable latch ◌>>=◌ ◌>>◌
 enables s task = under s task _ _
 
 -- ---- the wait
 
 waits : (s : Setup) (task : Task) (waited : ℕ) → context s task (waiting read_status1_command busy_value (timings_of (task_operation task)) waited)
-    ≡ tree meaning (more (number_transfer read_status1_command 1) (place s (Phase.Writing task WriteStep.Look waited)))
+    ≡ tree meaning (more (number_transfer read_status1_command 1) (place s (Phase.Writing task (WriteStep.Look waited))))
 unfolding meaning_at looked ◌>>=◌ ◌>>◌
 waits s task waited =
     ap (context s task) ((wait-in-general.loop read_status1_command busy_value (timings_of (task_operation task)) (wait-table.rule (task_operation task)).poll).loops waited)
@@ -229,9 +229,9 @@ prompt Operation.StatusWrite = refl
 
 -- ---- what follows, in the order of the phases
 
-latches : (s : Setup) (task : Task) (waited v : ℕ) → meaning_at s (Phase.Writing task WriteStep.Latch waited) v ≡ tree meaning (decide (latched_then s task (byte_of v)))
+latches : (s : Setup) (task : Task) (v : ℕ) → meaning_at s (Phase.Writing task WriteStep.Latch) v ≡ tree meaning (decide (latched_then s task (byte_of v)))
 unfolding meaning_at latch latched_then refuse ◌>>=◌ ◌>>◌
-latches s task waited v = by_cases (write_enabled_of (byte_of v)) (λ e. rw e (under s task _ _)) (λ e. rw e (through s task FlashError.WriteEnableFailed))
+latches s task v = by_cases (write_enabled_of (byte_of v)) (λ e. rw e (under s task _ _)) (λ e. rw e (through s task FlashError.WriteEnableFailed))
 
 enable-check2 : (s : Setup) (v : ℕ) → meaning_at s Phase.EnableCheck2 v ≡ tree meaning (decide (after_phase s Phase.EnableCheck2 v))
 unfolding meaning_at after_phase enable2 ◌>>=◌ ◌>>◌
@@ -357,7 +357,7 @@ module _ (s : Setup) (valid : in_bounds_of s.device ≡ true) where
   resumes (Task.PageProgram p) = verifies p.offset p.len p.done
   resumes (Task.Erase kind address end) = erases-on (after_unit s.device kind address) end
 
-  looks : (task : Task) (waited v : ℕ) → meaning_at s (Phase.Writing task WriteStep.Look waited) v ≡ tree meaning (decide (after_phase s (Phase.Writing task WriteStep.Look waited) v))
+  looks : (task : Task) (waited v : ℕ) → meaning_at s (Phase.Writing task (WriteStep.Look waited)) v ≡ tree meaning (decide (after_phase s (Phase.Writing task (WriteStep.Look waited)) v))
   unfolding meaning_at after_phase writing_then wait_then next_wait looked ◌>>=◌ ◌>>◌
   looks task waited v =
       let t = timings_of (task_operation task) in
@@ -367,17 +367,11 @@ module _ (s : Setup) (valid : in_bounds_of s.device ≡ true) where
       (λ d. rw (e, d, no_wrap t waited (wait-table.rule (task_operation task)).fits d) (under s task _ _)))
       (λ e. rw e (resumes task))
 
-  sent : (task : Task) (waited v : ℕ) → meaning_at s (Phase.Writing task WriteStep.Command waited) v ≡ tree meaning (decide (after_phase s (Phase.Writing task WriteStep.Command waited) v))
+  sent : (task : Task) (v : ℕ) → meaning_at s (Phase.Writing task WriteStep.Command) v ≡ tree meaning (decide (after_phase s (Phase.Writing task WriteStep.Command) v))
   unfolding meaning_at after_phase writing_then wait_then wait-ready prompt_wait
-  sent task waited v = rw (prompt (task_operation task)) (waits s task 0)
+  sent task v = rw (prompt (task_operation task)) (waits s task 0)
 
 -- ---- construction
-
-bind_assoc : {A B C : Type 0} (p : Prog A) (f : A → Prog B) (g : B → Prog C) → (p >>= f) >>= g ≡ p >>= (λ a. f a >>= g)
-unfolding ◌>>=◌
-bind_assoc (ret a) f g = refl
-bind_assoc (fail e) f g = refl
-bind_assoc (ask t k) f g = ap (ask t) (fun_ext (λ v. bind_assoc (k v) f g))
 
 bind-then : (p : Prog Nothing) (s : Setup) → (p >> ret s) >>= DONE ≡ p >> DONE s
 unfolding ◌>>=◌ ◌>>◌
@@ -431,11 +425,11 @@ follows s valid (Phase.UnprotectRead2 before) v = unprotects1 s before v
 follows s valid (Phase.UnprotectAfter before) v = refl
 follows s valid (Phase.Reading p) v = reads_on s p.offset p.len (p.done + chunk_of p.len p.done)
 follows s valid (Phase.Verifying p) v = verified-page s valid p.offset p.len p.done v
-follows s valid (Phase.Writing task WriteStep.Enable waited) v = under s task _ _
-follows s valid (Phase.Writing task WriteStep.Latch waited) v = latches s task waited v
-follows s valid (Phase.Writing task WriteStep.Command waited) v = sent s valid task waited v
-follows s valid (Phase.Writing task WriteStep.Look waited) v = looks s valid task waited v
-follows s valid (Phase.Writing task WriteStep.Pause waited) v = waits s task waited
+follows s valid (Phase.Writing task WriteStep.Enable) v = under s task _ _
+follows s valid (Phase.Writing task WriteStep.Latch) v = latches s task v
+follows s valid (Phase.Writing task WriteStep.Command) v = sent s valid task v
+follows s valid (Phase.Writing task (WriteStep.Look waited)) v = looks s valid task waited v
+follows s valid (Phase.Writing task (WriteStep.Pause waited)) v = waits s task waited
 
 pub simulates : Simulates Valid decide_next meaning
 unfolding next_of

@@ -31,7 +31,7 @@ read_unique_id_then setup phase = go_to setup (number_transfer read_unique_id_co
 
 -- write_enable: its command
 abbrev pub enabled_then : Setup → Task → Then
-enabled_then setup task = go_to setup (command_only write_enable_command) (Phase.Writing task WriteStep.Enable 0)
+enabled_then setup task = go_to setup (command_only write_enable_command) (Phase.Writing task WriteStep.Enable)
 
 -- enable_quad: `if .. { return Ok(()); }`
 abbrev pub done_if : Bool → Setup → Then → Then

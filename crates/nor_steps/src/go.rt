@@ -55,7 +55,6 @@ pub fn enabled(setup: Setup, task: Task) -> Then
         Phase::Writing {
             task,
             at: WriteStep::Enable,
-            waited: 0,
         },
     )
 }

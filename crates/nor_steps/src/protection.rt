@@ -1,4 +1,4 @@
-// unprotect: the block protection in both status registers.
+// unprotect: the block protection in both status registers. The Rust's two ifs, each with its mask, its task and what follows.
 ghost use Rattle.std.specs.Prelude.{◌≡◌};
 ghost use Rattle.nor_steps.specs.Go.{end_with};
 ghost use Rattle.nor_steps.specs.Protection.{unprotect_first, unprotect_second};

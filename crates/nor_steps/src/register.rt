@@ -16,7 +16,7 @@ use spi_nor::status;
 // The largest page that a read-back is made of.
 pub const MAX_VERIFY_PAGE_SIZE: usize = 512;
 
-// The id in the number that READ ID gives. No From<u64>: not each number is an id.
+// The id in the number that READ ID gives. No From<u64>: not each number is an id. (The NAND's likewise: its id is another type.)
 pub fn id_of(v: u64) -> NorJedecId
     ensures { result ≡ id_of v }
 {
@@ -39,7 +39,8 @@ fn device_for(setup: Setup, id: NorJedecId) -> NorDeviceInfo
     }
 }
 
-// with_config, once the id has been read. A page that is too large is refused before anything is written to the part.
+// with_config, once the id has been read. A page that is too large is refused before anything is written to the part. The NAND's tests
+// its page alike; the setup, the lookup, the limit and what follows are other ones, and a trait that holds them is longer than both.
 #[tactic(auto, unfolding(crate::specs::Register::identified_then))]
 pub fn identified(setup: Setup, v: u64) -> Then
     ensures { result ≡ identified_then setup v }
@@ -60,7 +61,7 @@ pub fn identified(setup: Setup, v: u64) -> Then
     go::end(known, Answer::Done)
 }
 
-// quad_enabled, once status register 2 has been read.
+// quad_enabled, once status register 2 has been read. `disable_first` begins alike and goes on with a write: what they share is `any`.
 pub fn quad_flag(setup: Setup, status2: u8) -> Then
     ensures { result ≡ quad_flag setup status2 }
 {
@@ -70,7 +71,7 @@ pub fn quad_flag(setup: Setup, status2: u8) -> Then
     go::read1(setup, Phase::QuadEnabled1)
 }
 
-// ---- enable_quad
+// ---- enable_quad: two looks, each with its own bit and the other register behind it. What they share is done_if.
 
 // The bit in status register 2: where it is not set, status register 1 is read, for its own bit or to set it there.
 pub fn enable_by2(setup: Setup, status2: u8, next: Phase) -> Then

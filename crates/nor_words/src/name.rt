@@ -14,6 +14,9 @@ use trace_words::request::Form;
 // An offset of the Rust has 32 bits.
 const OFFSET_MOST: u64 = 4294967295;
 
+// How many offsets there are. A larger number is cut to 32 bits; no case passes one on (`most`).
+const OFFSETS: u64 = OFFSET_MOST + 1;
+
 // The calls without their numbers and settings, which stand elsewhere in a case: `new` is `with_config` at the settings above, and
 // `new_single` is `new`.
 #[derive(Clone, Copy)]
@@ -40,7 +43,7 @@ pub enum Name {
     EraseBlock,
 }
 
-// As they are written in a case.
+// As they are written in a case: a table and no match, since what searches it is one function for both drivers, proved once.
 const NAMES: [(&[u8], Name); 20] = [
     (b"new", Name::New),
     (b"new_single", Name::NewSingle),
@@ -139,7 +142,7 @@ impl Words for Name {
     }
 
     fn call(self, config: SpiNorConfig, first: u64, second: u64) -> call::Call {
-        let offset = first as u32;
+        let offset = (first % OFFSETS) as u32;
         call::Call::Nor(match self {
             Name::New => Call::WithConfig(config),
             Name::NewSingle => Call::New,
@@ -160,7 +163,7 @@ impl Words for Name {
             Name::Write => Call::Write { offset },
             Name::Erase => Call::Erase {
                 from: offset,
-                to: second as u32,
+                to: (second % OFFSETS) as u32,
             },
             Name::EraseSector => Call::EraseSector { offset },
             Name::EraseBlock => Call::EraseBlock { offset },

@@ -30,7 +30,7 @@ pub enum Action {
 }
 
 // The code of a failed bus call, which is the host's own.
-#[derive(Clone, Copy, PartialEq, Eq)]
+#[derive(Clone, Copy)]
 pub struct BusError(pub u8);
 
 // The kind of a reply. The bytes of a Data reply are lent beside it: as a borrow inside, they would put a reference in place of a list

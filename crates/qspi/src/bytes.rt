@@ -1,5 +1,5 @@
 // The bytes behind actions and replies: parts of what is lent, numbers, comparisons and deliveries.
-ghost use Rattle.std.specs.Prelude.{◌≡◌, length, take, drop};
+ghost use Rattle.std.specs.Prelude.{◌≡◌, ◌+◌, length, take, drop, leb};
 ghost use Rattle.qspi.specs.Bytes.{part_of, sent_of, number_of, byte_of, begins_of, delivered_of, end_of, filler_length, with_filler, with_marker};
 
 use crate::bus::Part;
@@ -68,11 +68,18 @@ pub fn compare(s: &[u8], data: &[u8], from: usize) -> bool
     data.get(from..).unwrap_or(&[]).starts_with(s)
 }
 
+// Whether a delivery of len bytes at a place fits.
+fn has_room(buffer_len: usize, at: usize, len: usize) -> bool
+    ensures { result ≡ leb (at + len) buffer_len }
+{
+    len <= buffer_len && at <= buffer_len - len
+}
+
 // Puts the bytes into the buffer at a place. Where they do not fit, it keeps every byte.
 pub fn deliver(buffer: &mut [u8], at: usize, s: &[u8])
     ensures { buffer.new ≡ delivered_of buffer.old at s.now }
 {
-    if s.len() <= buffer.len() && at <= buffer.len() - s.len() {
+    if has_room(buffer.len(), at, s.len()) {
         buffer[at..at + s.len()].copy_from_slice(s);
     }
 }
@@ -108,7 +115,7 @@ pub fn put_marker(scratch: &mut [u8])
 pub fn end_of(at: usize, len: usize, buffer_len: usize, before: usize) -> usize
     ensures { result ≡ end_of at len buffer_len before }
 {
-    if len <= buffer_len && at <= buffer_len - len {
+    if has_room(buffer_len, at, len) {
         at + len
     } else {
         before

@@ -14,7 +14,8 @@ use spi_flash::error::FlashError;
 use tape::judge;
 use tape::reader::Reader;
 
-// The driver with what it gave last, and the position of the reader's next record.
+// The driver with what it gave last, and the position of the reader's next record: the tape itself is lent at each step. No Option where
+// no tape was begun: a replay that has ended is not read on, whatever its position.
 #[derive(Clone, Copy)]
 pub struct Replay<S, P, A> {
     pub stepped: Stepped<S, P, A>,

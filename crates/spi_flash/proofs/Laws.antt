@@ -13,11 +13,15 @@ use Rattle.spi_flash.specs.Path.{Past, back, End, going, done, failed, spent, as
 
 -- ---- programs
 
+pub bind_assoc : {A B C : Type 0} (p : Prog A) (f : A → Prog B) (g : B → Prog C) → (p >>= f) >>= g ≡ p >>= (λ a. f a >>= g)
+unfolding ◌>>=◌
+bind_assoc (ret a) f g = refl
+bind_assoc (fail e) f g = refl
+bind_assoc (ask t k) f g = ap (ask t) (fun_ext (λ v. bind_assoc (k v) f g))
+
 pub then-assoc : {A B C : Type 0} (p : Prog A) (q : Prog B) (r : Prog C) → (p >> q >> r) ≡ (p >> (q >> r))
-unfolding ◌>>◌ ◌>>=◌
-then-assoc (ret a) q r = refl
-then-assoc (fail e) q r = refl
-then-assoc (ask t k) q r = ap (ask t) (fun_ext (λ v. then-assoc (k v) q r))
+unfolding ◌>>◌
+then-assoc p q r = bind_assoc p (λ _. q) (λ _. r)
 
 -- ---- every path
 

@@ -17,3 +17,4 @@ pub mod Run
 pub mod Machine
 pub mod Seen
 pub mod OnBus
+pub mod Rows

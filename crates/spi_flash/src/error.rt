@@ -42,7 +42,7 @@ pub enum NorFlashErrorKind {
 }
 
 impl FlashError {
-    // The number of document 01. No discriminant has it: Spi carries its code.
+    // The number of document 01. No discriminant has it, since Spi carries its code, and no From, since that code is a u8 of the error too.
     pub fn number(self) -> u8
         ensures { result ≡ error_number self }
     {
@@ -66,6 +66,7 @@ impl FlashError {
         }
     }
 
+    // A method of this name is the Rust's, and no From.
     pub fn nor_flash_kind(self) -> NorFlashErrorKind
         ensures { result ≡ kind_of self }
     {

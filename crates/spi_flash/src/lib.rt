@@ -1,4 +1,5 @@
-// What both flash drivers share: their errors, what a call takes, whether it may begin, and the rule of their waits.
+// What both flash drivers share: their errors, what a call takes, whether it may begin, ranges and their pieces, reads of numbers, tables of
+// keys, and the rule of their waits.
 #![tactic(auto)]
 
 pub mod entry;
@@ -6,4 +7,5 @@ pub mod error;
 pub mod loan;
 pub mod number;
 pub mod range;
+pub mod rows;
 pub mod wait;

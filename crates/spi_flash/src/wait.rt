@@ -10,7 +10,7 @@ pub struct Timings {
     pub timeout_us: u32,
 }
 
-// Not a Result: a look and a pause go on, and the driver says which error a Timeout is.
+// Not a Result: `begin` cannot fail, and both drivers take the four apart in one match, whether a wait begins or goes on.
 #[derive(Clone, Copy)]
 pub enum Wait {
     // Look at the status.

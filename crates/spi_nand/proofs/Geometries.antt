@@ -2,15 +2,13 @@
 use Prim.Native.Nat.{◌*◌, ◌≤◌}
 use mathlib.Core.Path.{◌≡◌, refl}
 use mathlib.Core.Bool.{Bool, true, ◌&&◌}
-use mathlib.Core.List.{List, [], ◌∷◌}
 use native.Mathlib.Omega.{arith}
 use native.Mathlib.Nat.{mul_assoc, mul-le-mul, le-mul_of_pos_right}
 use lib.Dec.{leb}
 use borrow.Author.Tests.{leb-true}
 use Rattle.qspi.proofs.Tests.{tests}
-use Rattle.qspi.proofs.Cases.{by_cases}
-use Rattle.spi_flash.proofs.Table.{both, every}
-use Rattle.spi_nand.specs.Config.{block_size_of, page_count_of, capacity_of, in_bounds, KnownNand, known_nand_devices, same_id, geometry_in, from_jedec}
+use Rattle.spi_flash.proofs.Table.{both, found}
+use Rattle.spi_nand.specs.Config.{block_size_of, page_count_of, capacity_of, in_bounds, W25N01GV, known_nand_devices, same_id, from_jedec}
 use Rattle.spi_nand.specs.Geometries.{Bounded, Exact, Supported, GeometriesHold}
 use Rattle.spi_nand.specs.declared.config.NandJedecId.{NandJedecId}
 use Rattle.spi_nand.specs.declared.config.NandGeometry.{NandGeometry}
@@ -63,27 +61,15 @@ exact g h =
       capacity = products.exact (page * per_block * blocks) (omega arith);
     }
 
--- one test over the rows of known ids, and what it says of whatever a search of them gives
+-- one test of a geometry, which computes at every row
 abbrev supported : NandGeometry → Bool
 supported g = in_bounds g && leb g.page_size 4096
-
-abbrev supported_row : KnownNand → Bool
-supported_row k = supported k.1
-
-from-rows : (rows : List KnownNand) (id : NandJedecId) → every supported_row rows ≡ true → supported (geometry_in rows id) ≡ true
-unfolding in_bounds
-from-rows [] id t = refl
-from-rows (k ∷ ks) id t =
-    let each = both (supported_row k) (every supported_row ks) t in
-    by_cases (same_id id k.0)
-    (λ e. rw e each.0)
-    (λ e. rw e (from-rows ks id each.1))
 
 known : (id : NandJedecId) → Supported (from_jedec id)
 unfolding from_jedec in_bounds
 known id =
-    let g = geometry_in known_nand_devices id in
-    let told = both (in_bounds g) (leb g.page_size 4096) (from-rows known_nand_devices id refl) in
+    let g = from_jedec id in
+    let told = both (in_bounds g) (leb g.page_size 4096) (found (λ g. supported g ≡ true) same_id known_nand_devices id W25N01GV (refl, (refl, (refl, (refl, tt)))) refl) in
     record { bounds = told.0; page = leb-true g.page_size 4096 told.1 }
 
 pub geometries-hold : GeometriesHold

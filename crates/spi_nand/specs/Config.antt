@@ -1,6 +1,7 @@
 -- Geometry and settings (document 01, "Geometry"; nand/config.rs).
-use Rattle.std.specs.Prelude.{ℕ, ◌+◌, ◌-◌, ◌*◌, ◌^◌, min, Bool, false, ◌&&◌, List, [], ◌∷◌, get_or, leb, eqb, Some, None}
-use Rattle.qspi.specs.Choice.{pick}
+use Rattle.std.specs.Prelude.{ℕ, ◌+◌, ◌-◌, ◌*◌, ◌^◌, min, Bool, ◌&&◌, List, [], ◌∷◌, get_or, leb, eqb, Some, None}
+use Rattle.std.specs.Option.{unwrap_or}
+use Rattle.spi_flash.specs.Rows.{known_in}
 use Rattle.spi_nand.specs.Opcode.{QUAD-READ-CACHE, QUAD-LOAD-PROGRAM-DATA}
 use Rattle.spi_nand.specs.Status.{configuration_of, protection_of}
 use Rattle.spi_nand.specs.declared.config.NandJedecId.{NandJedecId}
@@ -83,16 +84,11 @@ known_nand_devices =
     ∷ []
 
 abbrev pub same_id : NandJedecId → NandJedecId → Bool
-same_id a b = pick (eqb a.manufacturer b.manufacturer) (eqb a.device b.device) false
+same_id a b = eqb a.manufacturer b.manufacturer && eqb a.device b.device
 
 -- "The ids in KNOWN_NAND_DEVICES choose; an unknown NAND is a W25N01GV"
-abbrev pub geometry_in : List KnownNand → NandJedecId → NandGeometry
-geometry_in [] id = W25N01GV
-geometry_in (k ∷ ks) id =
-    pick (same_id id k.0) k.1 (geometry_in ks id)
-
 unfoldable pub from_jedec : NandJedecId → NandGeometry
-from_jedec id = geometry_in known_nand_devices id
+from_jedec id = unwrap_or (known_in same_id known_nand_devices id) W25N01GV
 
 -- ---- settings
 

@@ -4,6 +4,7 @@ ghost use Rattle.spi_nand.specs.Config.{jedec_id_of, block_size_of, page_count_o
 
 use crate::opcode;
 use crate::status::{Configuration, Protection};
+use spi_flash::rows;
 
 // What READ ID answers.
 #[derive(Clone, Copy, PartialEq, Eq)]
@@ -139,16 +140,11 @@ impl NandGeometry {
     }
 
     // The geometry of a known id, else that of a W25N01GV.
+    #[tactic(auto, unfolding(crate::specs::Config::from_jedec))]
     pub fn from_jedec(id: NandJedecId) -> Self
         ensures { result ≡ from_jedec id }
     {
-        // `find` gives the pair, which is taken apart behind it all the same.
-        for (known, geometry) in KNOWN_NAND_DEVICES {
-            if known == id {
-                return geometry;
-            }
-        }
-        Self::W25N01GV
+        rows::known(&KNOWN_NAND_DEVICES, id).unwrap_or(Self::W25N01GV)
     }
 }
 
@@ -188,7 +184,7 @@ pub struct SpiNandConfig {
     pub geometry: Option<NandGeometry>,
 }
 
-// These are the Rust's, and so are the NOR's: one for both would take both of the types of the fields, and is longer.
+// The Rust's, as the NOR's are: one config over the types of the fields would lose the names of the fields.
 impl SpiNandConfig {
     pub fn single() -> Self
         ensures { result ≡ single_config }
@@ -219,6 +215,7 @@ pub struct NandInit {
 }
 
 impl NandInit {
+    // The Rust's zeros, in place of a None.
     pub const UNKNOWN: Self = Self {
         id: NandJedecId {
             manufacturer: 0,

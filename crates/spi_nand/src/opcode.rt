@@ -46,35 +46,38 @@ pub enum Operation {
     WriteRegister,
 }
 
+// The waits: a table by operation, as document 01 names it, in the order of Operation's variants.
+const WAITS: [Timings; 5] = [
+    Timings {
+        initial_us: 10,
+        poll_us: 10,
+        timeout_us: 500_000,
+    },
+    Timings {
+        initial_us: 10,
+        poll_us: 10,
+        timeout_us: 400_000,
+    },
+    Timings {
+        initial_us: 75,
+        poll_us: 15,
+        timeout_us: 400_000,
+    },
+    Timings {
+        initial_us: 250,
+        poll_us: 50,
+        timeout_us: 400_000,
+    },
+    Timings {
+        initial_us: 10,
+        poll_us: 10,
+        timeout_us: 10_000,
+    },
+];
+
 #[tactic(auto, unfolding(crate::specs::Opcode::timings_of))]
 pub fn timings(operation: Operation) -> Timings
     ensures { result ≡ timings_of operation }
 {
-    match operation {
-        Operation::Reset => Timings {
-            initial_us: 10,
-            poll_us: 10,
-            timeout_us: 500_000,
-        },
-        Operation::PageRead => Timings {
-            initial_us: 10,
-            poll_us: 10,
-            timeout_us: 400_000,
-        },
-        Operation::Program => Timings {
-            initial_us: 75,
-            poll_us: 15,
-            timeout_us: 400_000,
-        },
-        Operation::Erase => Timings {
-            initial_us: 250,
-            poll_us: 50,
-            timeout_us: 400_000,
-        },
-        Operation::WriteRegister => Timings {
-            initial_us: 10,
-            poll_us: 10,
-            timeout_us: 10_000,
-        },
-    }
+    WAITS[operation as usize]
 }

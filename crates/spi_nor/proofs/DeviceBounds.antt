@@ -12,7 +12,8 @@ use borrow.Author.Tests.{eqb-true, leb-true, leb-false}
 use Rattle.qspi.specs.Choice.{pick}
 use Rattle.qspi.proofs.Tests.{tests}
 use Rattle.qspi.proofs.Cases.{by_cases}
-use Rattle.spi_nor.specs.Config.{largest_capacity, largest_page, standard_device, jedec_id, same_id, unknown_device, capacity_bytes_of, from_jedec, in_bounds_of}
+use Rattle.spi_flash.proofs.Table as table
+use Rattle.spi_nor.specs.Config.{largest_capacity, largest_page, standard_device, known_nor_devices, same_id, unknown_device, capacity_bytes_of, from_jedec, in_bounds_of}
 use Rattle.spi_nor.specs.DeviceBounds.{InBounds, DeviceBounds}
 use Rattle.spi_nor.specs.declared.config.NorJedecId.{NorJedecId}
 use Rattle.spi_nor.specs.declared.config.NorDeviceInfo.{NorDeviceInfo}
@@ -106,16 +107,11 @@ other id =
     (λ high. rw (high-code id (leb-false _ _ high)) (standard 16777216 (omega arith))))
     (λ low. rw (low-code id (leb-false _ _ low)) (standard 16777216 (omega arith)))
 
-choose : {d e : NorDeviceInfo} (b : Bool) → Standard d → Standard e → Standard (pick b d e)
-choose true p q = p
-choose false p q = q
-
 found : (id : NorJedecId) → Standard (from_jedec id)
 unfolding from_jedec
 found id =
-    choose (same_id id (jedec_id 0xEF 0x40 0x17)) (standard 8388608 (omega arith))
-    (choose (same_id id (jedec_id 0xEF 0x40 0x18)) (standard 16777216 (omega arith))
-    (choose (same_id id (jedec_id 0xC8 0x40 0x18)) (standard 16777216 (omega arith)) (other id)))
+    let large = standard 16777216 (omega arith) in
+    table.found Standard same_id known_nor_devices id (unknown_device (capacity_bytes_of id)) (standard 8388608 (omega arith), (large, (large, tt))) (other id)
 
 detected : (id : NorJedecId) → InBounds (from_jedec id)
 detected id = rw (found id).is record {

@@ -1,6 +1,8 @@
 -- Geometries, the id table and their bounds (nor/config.rs; document 01, "Geometry").
-use Rattle.std.specs.Prelude.{ℕ, ◌%◌, ◌^◌, Bool, false, List, [], ◌∷◌, leb, eqb, Option, Some, None}
+use Rattle.std.specs.Prelude.{ℕ, ◌%◌, ◌^◌, Bool, false, ◌&&◌, List, [], ◌∷◌, leb, eqb, Option, Some, None}
+use Rattle.std.specs.Option.{unwrap_or}
 use Rattle.qspi.specs.Choice.{pick}
+use Rattle.spi_flash.specs.Rows.{known_in}
 use Rattle.spi_nor.specs.Opcode.{QUAD-READ, QUAD-PAGE-PROGRAM}
 use Rattle.spi_nor.specs.declared.config.NorJedecId.{NorJedecId}
 use Rattle.spi_nor.specs.declared.config.NorDeviceInfo.{NorDeviceInfo}
@@ -60,19 +62,11 @@ unknown_device (Some capacity) = standard_device capacity
 unknown_device None = w25q128jv
 
 abbrev pub same_id : NorJedecId → NorJedecId → Bool
-same_id a b =
-    pick (eqb a.manufacturer b.manufacturer)
-    (pick (eqb a.memory_type b.memory_type) (eqb a.capacity b.capacity) false)
-    false
-
--- the device of the first row with this id, or else the other
-abbrev pub look_up : NorJedecId → List (NorJedecId × NorDeviceInfo) → NorDeviceInfo → NorDeviceInfo
-look_up id [] other = other
-look_up id (row ∷ rows) other = pick (same_id id row.0) row.1 (look_up id rows other)
+same_id a b = eqb a.manufacturer b.manufacturer && eqb a.memory_type b.memory_type && eqb a.capacity b.capacity
 
 -- NorDeviceInfo::from_jedec; document 01: "The ids in `KNOWN_NOR_DEVICES` choose"
 unfoldable pub from_jedec : NorJedecId → NorDeviceInfo
-from_jedec id = look_up id known_nor_devices (unknown_device (capacity_bytes_of id))
+from_jedec id = unwrap_or (known_in same_id known_nor_devices id) (unknown_device (capacity_bytes_of id))
 
 -- ---- bounds
 

@@ -3,6 +3,7 @@ ghost use Rattle.std.specs.Prelude.{◌≡◌};
 ghost use Rattle.spi_nor.specs.Config.{capacity_bytes_of, from_jedec, in_bounds_of, quad_w25q128jv, single_config, quad_config};
 
 use crate::opcode;
+use spi_flash::rows;
 
 // Program page size in bytes.
 pub const NOR_PAGE_SIZE: usize = 256;
@@ -100,13 +101,7 @@ impl NorDeviceInfo {
     pub fn from_jedec(id: NorJedecId) -> Self
         ensures { result ≡ from_jedec id }
     {
-        // `find` gives the pair, which is taken apart behind it all the same.
-        for (known, info) in KNOWN_NOR_DEVICES {
-            if known == id {
-                return info;
-            }
-        }
-        match id.capacity_bytes() {
+        let unknown = match id.capacity_bytes() {
             Some(capacity) => Self {
                 capacity,
                 sector_size: NOR_SECTOR_SIZE,
@@ -114,7 +109,8 @@ impl NorDeviceInfo {
                 page_size: NOR_PAGE_SIZE,
             },
             None => Self::W25Q128JV,
-        }
+        };
+        rows::known(&KNOWN_NOR_DEVICES, id).unwrap_or(unknown)
     }
 
     // Added: whether a caller's own geometry is one that the driver takes.
@@ -128,7 +124,7 @@ impl NorDeviceInfo {
             && self.sector_size >= 1
             && self.block_size >= 1
             && self.block_size <= MAX_CAPACITY
-            && self.block_size % self.sector_size == 0
+            && self.block_size.is_multiple_of(self.sector_size)
     }
 }
 
@@ -170,7 +166,7 @@ pub struct SpiNorConfig {
     pub device: Option<NorDeviceInfo>,
 }
 
-// These are the Rust's, and so are the NAND's: one for both would take both of the types of the fields, and is longer.
+// The Rust's, as the NAND's are: one config over the types of the fields would lose the names of the fields.
 impl SpiNorConfig {
     pub fn single() -> Self
         ensures { result ≡ single_config }

@@ -53,20 +53,33 @@ pub enum Operation {
     StatusWrite,
 }
 
-// The first look comes at once.
+// The waits: a table by operation, as document 01 names it, in the order of Operation's variants. The first look comes at once.
+const WAITS: [Timings; 4] = [
+    Timings {
+        initial_us: 0,
+        poll_us: POLL_INTERVAL_US,
+        timeout_us: PAGE_PROGRAM_TIMEOUT_US,
+    },
+    Timings {
+        initial_us: 0,
+        poll_us: POLL_INTERVAL_US,
+        timeout_us: SECTOR_ERASE_TIMEOUT_US,
+    },
+    Timings {
+        initial_us: 0,
+        poll_us: POLL_INTERVAL_US,
+        timeout_us: BLOCK_ERASE_TIMEOUT_US,
+    },
+    Timings {
+        initial_us: 0,
+        poll_us: POLL_INTERVAL_US,
+        timeout_us: STATUS_WRITE_TIMEOUT_US,
+    },
+];
+
 #[tactic(auto, unfolding(crate::specs::Opcode::timings_of))]
 pub fn timings(operation: Operation) -> Timings
     ensures { result ≡ timings_of operation }
 {
-    let timeout_us = match operation {
-        Operation::PageProgram => PAGE_PROGRAM_TIMEOUT_US,
-        Operation::SectorErase => SECTOR_ERASE_TIMEOUT_US,
-        Operation::BlockErase => BLOCK_ERASE_TIMEOUT_US,
-        Operation::StatusWrite => STATUS_WRITE_TIMEOUT_US,
-    };
-    Timings {
-        initial_us: 0,
-        poll_us: POLL_INTERVAL_US,
-        timeout_us,
-    }
+    WAITS[operation as usize]
 }

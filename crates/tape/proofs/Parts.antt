@@ -1,12 +1,13 @@
 -- A part of a list, as code takes it and as definitions say it.
 use Prim.Native.Nat.{ℕ, zero, suc, ◌+◌, ◌-◌, ◌≤◌}
-use mathlib.Core.Path.{◌≡◌, refl, ap, sym, ◌∙◌}
+use mathlib.Core.Path.{◌≡◌, ap, sym, ◌∙◌}
 use mathlib.Core.List.{List, [], ◌∷◌}
 use native.Mathlib.Nat.{suc-sub-suc, zero-sub, sub-zero, sub-eq-zero_of_le}
 use native.Mathlib.Omega.{arith}
 use lib.ListN.{length, take, drop}
 use lib.Seq.{take-nil, take-take, drop-drop, slice, length-slice}
 use borrow.Author.Tests.{le-leb}
+use Rattle.std.proofs.lemmas.List.{nil_from_length}
 use Rattle.qspi.specs.Bytes.{part_of}
 use Rattle.tape.specs.Record.{trailer_at, ahead_of}
 
@@ -23,11 +24,7 @@ room tape at = length-slice at (trailer_at tape) tape (omega arith)
 
 -- past the trailer there are none
 pub none_ahead : (tape : List ℕ) (at : ℕ) → trailer_at tape ≤ at → ahead_of tape at ≡ []
-none_ahead tape at h = empty (ahead_of tape at) (room tape at ∙ sub-eq-zero_of_le h)
-  where
-    empty : (l : List ℕ) → length l ≡ 0 → l ≡ []
-    empty [] e = refl
-    empty (b ∷ bs) e = absurd (omega arith)
+none_ahead tape at h = nil_from_length (ahead_of tape at) (room tape at ∙ sub-eq-zero_of_le h)
 
 -- the bytes ahead of a later position
 pub further : (tape : List ℕ) (at n : ℕ) → ahead_of tape (at + n) ≡ drop n (ahead_of tape at)

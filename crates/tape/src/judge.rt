@@ -52,10 +52,10 @@ pub fn start(tape: &[u8]) -> Option<usize>
     well_formed(tape).then_some(pointer(tape))
 }
 
-// The same with 0 for none: it stands as it did, a function that cannot fail.
+// The same with 0 for none. A rule of the port: what is promised under a name stays promised under it.
 #[tactic(auto, unfolding(crate::specs::Judge::first_of))]
 pub fn first(tape: &[u8]) -> usize
     ensures { result ≡ first_of tape.now }
 {
-    if well_formed(tape) { pointer(tape) } else { 0 }
+    start(tape).unwrap_or(0)
 }

@@ -67,12 +67,9 @@ impl<'a> Reader<'a> {
     pub fn ahead(self) -> &'a [u8]
         ensures { result.now ≡ ahead_of self.entry.tape.now self.entry.at }
     {
-        let end = record::trailer_at(self.tape);
-        if self.at <= end {
-            &self.tape[self.at..end]
-        } else {
-            &self.tape[..0]
-        }
+        self.tape
+            .get(self.at..record::trailer_at(self.tape))
+            .unwrap_or(&[])
     }
 
     // The record at the reader's position, and the position behind it.

@@ -4,6 +4,7 @@ ghost use Rattle.tape.specs.Record.{trailer_at, number_of_record, length_of, dat
 
 use qspi::bus::Reply;
 use qspi::bytes;
+use spi_flash::error::FlashError;
 
 // The byte that a record begins with, by its kind: numbers, since they are the tape's format. `Record` is the enum of the kinds.
 pub const DONE: u8 = 0;
@@ -11,9 +12,6 @@ pub const DONE: u8 = 0;
 pub const DATA: u8 = 1;
 
 pub const BUS_ERROR: u8 = 2;
-
-// The number of an answer without a record: a bus action awaits a reply, and none is left.
-pub const SPENT: u8 = 16;
 
 // The only lengths of the kinds other than data.
 pub const DONE_LEN: usize = 0;
@@ -31,12 +29,12 @@ pub const TRAILER_LEN: usize = 3;
 #[derive(Clone, Copy)]
 pub enum Record {
     Done,
-    // The bytes are a part of the tape, by place and length: a slice would keep the tape lent from one record to the next.
+    // The bytes by place and length: with a slice inside, each definition over records would hold a reference in place of two numbers.
     Data { from: usize, len: usize },
     BusError(u8),
 }
 
-// The position stands in both cases: without a record the reader stays.
+// Not an Option of both: without a record the position is the reader's own, and the definition that walks a tape goes by it.
 #[derive(Clone, Copy)]
 pub struct Taken {
     pub given: Option<Record>,
@@ -52,6 +50,7 @@ pub fn trailer_at(tape: &[u8]) -> usize
 }
 
 impl Record {
+    // The tape's number of it, as above.
     pub fn kind(self) -> u8
         ensures { result ≡ number_of_record (Some self) }
     {
@@ -95,13 +94,14 @@ impl Record {
     }
 }
 
-// The number of an answer: a record's kind, or the refusal's. Like the length below it says a number of None too.
+// The number of an answer: a record's kind, or the refusal's. Like the length below it says a number of None too: what was promised of an
+// answer without a record stays promised.
 pub fn number(answer: Option<Record>) -> u8
     ensures { result ≡ number_of_record answer }
 {
     match answer {
         Some(record) => record.kind(),
-        None => SPENT,
+        None => FlashError::TapeSpent.number(),
     }
 }
 

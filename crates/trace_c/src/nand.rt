@@ -1,4 +1,4 @@
-// The NAND's trace as a function of C. A name of C's is no generic one, so each driver has its own.
+// The NAND's trace as a function of C. A name of C's is no generic one, so each driver has its own. Each memory is a parameter of C's.
 ghost use Rattle.std.specs.Prelude.{◌≡◌};
 ghost use Rattle.lines.specs.Text.{text_of};
 ghost use Rattle.flash_calls.specs.declared.call.Kind.{Kind};

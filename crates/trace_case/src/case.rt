@@ -29,8 +29,8 @@ fn turns(kind: Kind, text: &[u8], room: &mut [u8], reply: &mut [u8], out: &mut W
     }
 }
 
-// Puts the trace of a case into out and gives its length. What has no place there is cut. The room is the memory for a call's
-// buffer or data, the reply that for the bytes of a data reply.
+// Puts the trace of a case into out and gives its length, which is C's result. What has no place there is cut. The room is the memory for
+// a call's buffer or data, the reply that for the bytes of a data reply.
 pub fn traced(kind: Kind, text: &[u8], room: &mut [u8], reply: &mut [u8], out: &mut [u8]) -> usize
     ensures result_after { text_of out.new result ≡ (case_of kind text.now room.old reply.old out.old).text }
     ensures room_after { room.new ≡ (case_of kind text.now room.old reply.old out.old).room }

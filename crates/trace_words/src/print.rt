@@ -71,7 +71,7 @@ fn solid(out: &mut Writer, s: &[u8])
     }
 }
 
-// Before the first piece B, and a blank where a byte follows: a place and a length of what has been printed, and no bytes.
+// Before the first piece B, and a blank where a byte follows. It takes the piece's place and the buffer's length: no byte is looked at.
 #[tactic(auto, using(lines::proofs::Appending::appended_behind), unfolding(lines::specs::Text::appended, crate::specs::Print::head_of))]
 fn head(out: &mut Writer, from: usize, len: usize)
     ensures { Appends (head_of from len) out.old out.new }

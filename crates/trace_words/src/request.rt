@@ -20,7 +20,7 @@ const FIRST: usize = 2;
 
 const SECOND: usize = 3;
 
-// How a call is written.
+// How a call is written. An enum and no closure: a method hands it out.
 #[derive(Clone, Copy)]
 pub enum Form {
     // Its name alone.
@@ -33,7 +33,7 @@ pub enum Form {
     Data,
 }
 
-// A number that is not written is 0.
+// A number that is not written is 0 and no None: a call reads only the numbers of its form.
 #[derive(Clone, Copy)]
 pub struct Request {
     pub first: u64,
@@ -48,7 +48,7 @@ fn bounded(s: &[u8], most: u64) -> Option<u64>
     ensures upper_bound { IfSome result (λ n. n ≤ most) }
 {
     let n = word::parsed(s)?;
-    if n <= most { Some(n) } else { None }
+    (n <= most).then_some(n)
 }
 
 // ---- what a call lends
@@ -71,13 +71,11 @@ fn data(line: &[u8], room_len: usize) -> Option<Takes>
         return None;
     };
     let n = digits.len() / 2;
-    if word::is_hex(digits) && n <= room_len {
-        return Some(Takes::Data(n));
-    }
-    None
+    (word::is_hex(digits) && n <= room_len).then_some(Takes::Data(n))
 }
 
-// ---- the forms: each has its words and reads its own of them. One for all would take how many, which, and what is lent.
+// ---- the forms: each has its words and reads its own of them. One for all would take how many, which, and what is lent. Line and bound
+// stay two: `plain` takes no bound.
 
 #[tactic(auto, unfolding(crate::specs::Request::plain_of))]
 fn plain(line: &[u8]) -> Option<Request>
@@ -94,7 +92,7 @@ fn plain(line: &[u8]) -> Option<Request>
     })
 }
 
-// Here and below the bound is a clause and no invariant of Request, which would hold it beside the numbers.
+// Here and below the bound is a clause and no ghost field: each definition that makes a Request would have to name it.
 #[tactic(auto, unfolding(crate::specs::Request::one_number))]
 fn one(line: &[u8], most: u64) -> Option<Request>
     ensures value { result ≡ one_number line.now most }

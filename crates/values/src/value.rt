@@ -12,7 +12,7 @@ pub fn flag(f: bool) -> u64
     u64::from(f)
 }
 
-// 0 and no None past the end: a function that could not fail stays so.
+// 0 and no None past the end: it is asked below the count alone, where an Option would be taken apart for nothing.
 pub fn at(values: &[u64], i: usize) -> u64
     ensures { result ≡ get_or values.now i 0 }
 {

@@ -1,16 +1,15 @@
-use Rattle.std.proofs.Common.{ap, sym, ◌∙◌}
-use Rattle.trace_case.specs.Case.{Traced}
+use Rattle.std.proofs.Common.{refl, rules, sym, ◌∙◌}
+use native.Mathlib.Nat.{sub-zero}
 use Rattle.trace_case.proofs.Turns.{turn-taken, turns-over, turns-spent, whole-case}
 use Rattle.trace_case.proofs.case.turns.Goals as goal
 
+pub loop-init : goal.loop-init
+loop-init c = (rw sub-zero (whole-case _ _ _ _ _ _ _ c.start-trace.ensures c.budget-most.ensures), refl)
+
 pub returns-then-is_over : goal.returns-then-is_over
 returns-then-is_over c =
-    let e = turns-over _ _ _ (sym c.is_over.ensures ∙ c.if-is_over.true) ∙ c.loop.invariant.0 ∙ whole-case _ _ _ _ _ _ _ c.start-trace.ensures c.budget-most.ensures in record {
-      same = c.loop.invariant.1;
-      text_after = ap (λ (t : Traced). t.text) e;
-      room_after = ap (λ (t : Traced). t.room) e;
-      reply_after = ap (λ (t : Traced). t.reply) e;
-    }
+    let e = turns-over _ _ _ (sym c.is_over.ensures ∙ c.if-is_over.true) ∙ c.loop.invariant.0 in
+    rw (← e) (search rules)
 
 pub loop-preserved : goal.loop-preserved
 loop-preserved c = (
@@ -21,9 +20,5 @@ loop-preserved c = (
 
 pub returns : goal.returns
 returns c =
-    let e = turns-spent _ _ _ _ c.loop-test.false ∙ c.loop.invariant.0 ∙ whole-case _ _ _ _ _ _ _ c.start-trace.ensures c.budget-most.ensures in record {
-      same = c.loop.invariant.1;
-      text_after = ap (λ (t : Traced). t.text) e;
-      room_after = ap (λ (t : Traced). t.room) e;
-      reply_after = ap (λ (t : Traced). t.reply) e;
-    }
+    let e = turns-spent _ _ _ _ c.loop-test.false ∙ c.loop.invariant.0 in
+    rw (← e) (search rules)
