@@ -1,5 +1,6 @@
-// Any turn of a trace. The settings and the place stay two: all turns but one change the place alone, and most take no settings. The memory
-// is lent one by one, as C lends it. What was given and the count stay two: the struct of both, Stepped, holds a driver, and no turn does.
+// Any turn of a trace. The settings and the place stay two: all turns but one leave the settings as they are, and most do not read them. The
+// memory is lent one by one, as C lends it. What was given and the count stay two: the struct of both, Stepped, holds a driver, and no turn
+// does.
 ghost use Rattle.std.specs.Prelude.{◌≡◌};
 ghost use Rattle.lines.specs.Writing.{text_in, SameRoom};
 ghost use Rattle.flash_turns.specs.Turn.{next_turn, taken_to, turn_of};

@@ -14,7 +14,7 @@ use trace_words::request::Form;
 // The largest numbers that are passed on: a register and its value are bytes.
 const BYTE_MOST: u64 = 255;
 
-// How many bytes there are. A larger number is cut to 8 bits; no case passes one on (`most`).
+// How many bytes there are. A number past BYTE_MOST is cut to 8 bits; no case passes one on (`most`).
 const BYTES: u64 = BYTE_MOST + 1;
 
 const WORD_MOST: u64 = u64::MAX;

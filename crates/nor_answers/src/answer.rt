@@ -1,5 +1,6 @@
-// The values of an answer in the order in which a trace prints them: how many, and each by its place. As a list they would be
-// an ArrayVec of the kit, which is filled by a call that may fail. Past the last one a value is 0.
+// The values of an answer in the order in which a trace prints them: how many, and each by its place. As a list they would be an ArrayVec
+// of the kit, which takes a slice by a call that may fail, or one value after the other, for each of which its room must be shown. Past the
+// last one a value is 0.
 ghost use Rattle.std.specs.Prelude.{◌≡◌, get_or, length};
 ghost use Rattle.nor_answers.specs.Answer.{id_values, device_values, quad_numbers, answer_values};
 

@@ -12,9 +12,9 @@ use spi_nor::config::{NorDeviceInfo, NorQuadConfig, SpiNorConfig};
 use trace_words::request::Form;
 
 // An offset of the Rust has 32 bits.
-const OFFSET_MOST: u64 = 4294967295;
+const OFFSET_MOST: u64 = u32::MAX as u64;
 
-// How many offsets there are. A larger number is cut to 32 bits; no case passes one on (`most`).
+// How many offsets there are. A number past OFFSET_MOST is cut to 32 bits; no case passes one on (`most`).
 const OFFSETS: u64 = OFFSET_MOST + 1;
 
 // The calls without their numbers and settings, which stand elsewhere in a case: `new` is `with_config` at the settings above, and
