@@ -1,18 +1,18 @@
 // Calls and replies handed to whichever driver it is.
 ghost use Rattle.std.specs.Prelude.{◌≡◌};
-ghost use Rattle.frames.specs.Loan.{SameLoan, lending, returning};
+ghost use Rattle.qspi.specs.Loan.{SameLoan, lending, returning};
 ghost use Rattle.flash.specs.Drive.{not_built, refused_of, fresh_of, count_of, stepped_by, begin_of, stepped_to, step_of};
 
 use crate::side::Side;
 use crate::state::{Flash, Stepped};
 use flash_calls::call::{Call, Kind};
-use frames::loan::{Lengths, Loan};
 use machine::part::SteppedOf;
 use machine::state::Given;
 use machine::{call, step};
 use nand_driver::part::Nand;
 use nor_driver::part::Nor;
 use qspi::bus::Reply;
+use qspi::loan::{Lengths, Loan};
 use spi_flash::error::FlashError;
 
 // A driver before any construction.

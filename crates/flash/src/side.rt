@@ -35,7 +35,7 @@ impl Side for Nor {
         Flash::Nor(flash)
     }
 
-    fn answer(answer: nor_answers::answer::Answer) -> Answer {
+    fn answer(answer: spi_nor::answer::Answer) -> Answer {
         Answer::Nor(answer)
     }
 }
@@ -51,7 +51,7 @@ impl Side for Nand {
         Flash::Nand(flash)
     }
 
-    fn answer(answer: nand_answers::answer::Answer) -> Answer {
+    fn answer(answer: spi_nand::answer::Answer) -> Answer {
         Answer::Nand(answer)
     }
 }

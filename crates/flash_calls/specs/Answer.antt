@@ -1,7 +1,7 @@
 -- The values of an answer, as its driver has them.
 use Rattle.std.specs.Prelude.{ℕ, List}
-use Rattle.nor_answers.specs.Answer as nor
-use Rattle.nand_answers.specs.Answer as nand
+use Rattle.spi_nor.specs.Answer as nor
+use Rattle.spi_nand.specs.Answer as nand
 use Rattle.flash_calls.specs.declared.given.Answer.{Answer}
 
 abbrev pub answer_values : Answer → List ℕ

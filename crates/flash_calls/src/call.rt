@@ -7,6 +7,6 @@ pub enum Kind {
 
 #[derive(Clone, Copy)]
 pub enum Call {
-    Nor(nor_phases::call::Call),
-    Nand(nand_phases::call::Call),
+    Nor(spi_nor::call::Call),
+    Nand(spi_nand::call::Call),
 }

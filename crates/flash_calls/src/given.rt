@@ -7,8 +7,8 @@ use machine::state;
 // What a call that succeeds answers.
 #[derive(Clone, Copy)]
 pub enum Answer {
-    Nor(nor_answers::answer::Answer),
-    Nand(nand_answers::answer::Answer),
+    Nor(spi_nor::answer::Answer),
+    Nand(spi_nand::answer::Answer),
 }
 
 pub type Given = state::Given<Answer>;

@@ -11,13 +11,13 @@ use borrow.Author.Tests.{eqb-true}
 use Rattle.qspi.specs.Bus.{fits_of}
 use Rattle.qspi.specs.Command.{scratch_least}
 use Rattle.qspi.specs.Shown.{shown_of}
-use Rattle.frames.specs.Frame.{Outcome, first_of, action_of, taken_in, frame_at, advanced_of, gave, given_scratch, exchange_of}
-use Rattle.frames.proofs.Sent.{shown-bytes}
+use Rattle.qspi.specs.Frame.{Outcome, first_of, action_of, taken_in, frame_at, advanced_of, gave, given_scratch, exchange_of}
+use Rattle.qspi.proofs.Sent.{shown-bytes}
 use Rattle.qspi.specs.declared.bus.Reply.{Reply}
 use Rattle.qspi.specs.declared.transfer.Transfer.{Transfer}
-use Rattle.frames.specs.declared.frame.Stage.{Stage}
-use Rattle.frames.specs.declared.frame.Advanced.{Advanced}
-use Rattle.frames.specs.declared.frame.Frame.{Frame}
+use Rattle.qspi.specs.declared.frame.Stage.{Stage}
+use Rattle.qspi.specs.declared.frame.Advanced.{Advanced}
+use Rattle.qspi.specs.declared.frame.Frame.{Frame}
 use Rattle.spi_flash.specs.declared.loan.Takes.{Takes}
 use Rattle.spi_flash.specs.Loan.{Lent, ready_of, ready_for}
 use Rattle.spi_flash.specs.Prog.{Prog}

@@ -12,15 +12,15 @@ use borrow.Author.Tests.{eqb-true, le-leb}
 use Rattle.qspi.specs.Bus.{awaits_of, fits_at}
 use Rattle.qspi.specs.Bytes.{delivered_of}
 use Rattle.qspi.specs.Command.{command_bytes}
-use Rattle.frames.specs.Frame.{Outcome, action_at, start_action, sink_of, frame_at, taken_at, delivered_at, advanced_at}
-use Rattle.frames.specs.ShownBytes.{shown_at}
+use Rattle.qspi.specs.Frame.{Outcome, action_at, start_action, sink_of, frame_at, taken_at, delivered_at, advanced_at}
+use Rattle.qspi.specs.ShownBytes.{shown_at}
 use Rattle.qspi.specs.declared.bus.Reply.{Reply}
 use Rattle.qspi.specs.declared.transfer.Sink.{Sink}
 use Rattle.qspi.specs.declared.transfer.Body.{Body}
 use Rattle.qspi.specs.declared.transfer.Transfer.{Transfer}
-use Rattle.frames.specs.declared.frame.Stage.{Stage}
-use Rattle.frames.specs.declared.frame.Advanced.{Advanced}
-use Rattle.frames.specs.declared.frame.Frame.{Frame}
+use Rattle.qspi.specs.declared.frame.Stage.{Stage}
+use Rattle.qspi.specs.declared.frame.Advanced.{Advanced}
+use Rattle.qspi.specs.declared.frame.Frame.{Frame}
 use Rattle.spi_flash.specs.Prog.{Prog, ret, fail, ask}
 use Rattle.spi_flash.proofs.OnBus.{false≢true, Reached, done-at-start}
 use Rattle.flash_runs.specs.Reading.{data_at, mine_after, SameFrom, in_front}

@@ -4,8 +4,8 @@ use mathlib.Core.Bool.{Bool}
 use mathlib.Core.List.{List}
 use lib.ListN.{length}
 use Rattle.qspi.specs.declared.bus.Reply.{Reply}
-use Rattle.frames.specs.Frame.{Outcome, AfterExchange}
-use Rattle.frames.specs.declared.frame.Exchanged.{Exchanged}
+use Rattle.qspi.specs.Frame.{Outcome, AfterExchange}
+use Rattle.qspi.specs.declared.frame.Exchanged.{Exchanged}
 use Rattle.spi_flash.specs.Beginning as Beginning
 use Rattle.spi_flash.specs.Beginning.{Calls}
 use Rattle.spi_flash.specs.Loan.{Lent}

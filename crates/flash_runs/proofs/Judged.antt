@@ -13,8 +13,8 @@ use Rattle.qspi.specs.Command.{scratch_least}
 use Rattle.qspi.specs.Shown.{Shown, shown_of}
 use Rattle.qspi.specs.declared.bus.Action.{Action}
 use Rattle.qspi.specs.declared.bus.Reply.{Reply}
-use Rattle.frames.specs.Frame.{first_of, action_of, exchange_of, advanced_of, taken_in, gave}
-use Rattle.frames.specs.declared.frame.Advanced.{Advanced}
+use Rattle.qspi.specs.Frame.{first_of, action_of, exchange_of, advanced_of, taken_in, gave}
+use Rattle.qspi.specs.declared.frame.Advanced.{Advanced}
 use Rattle.spi_flash.specs.Entry.{entry_of}
 use Rattle.spi_flash.specs.Beginning as Beginning
 use Rattle.spi_flash.specs.Settling as Settling

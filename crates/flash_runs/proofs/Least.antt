@@ -2,10 +2,10 @@
 use Prim.Native.Nat.{ℕ, ◌+◌, ◌≤◌}
 use native.Mathlib.Omega.{arith}
 use mathlib.Core.List.{List, [], ◌∷◌}
-use Rattle.frames.specs.Frame.{Outcome, first_of, exchange_of}
+use Rattle.qspi.specs.Frame.{Outcome, first_of, exchange_of}
 use Rattle.qspi.specs.declared.transfer.Transfer.{Transfer}
-use Rattle.frames.specs.declared.frame.Frame.{Frame}
-use Rattle.frames.specs.declared.frame.Exchanged.{Exchanged}
+use Rattle.qspi.specs.declared.frame.Frame.{Frame}
+use Rattle.qspi.specs.declared.frame.Exchanged.{Exchanged}
 use Rattle.spi_flash.specs.declared.loan.Takes.{Takes}
 use Rattle.spi_flash.specs.Loan.{Lent}
 use Rattle.spi_flash.specs.Prog.{Prog, ask}

@@ -7,9 +7,9 @@ use mathlib.Core.Logic.{◌⊎◌, ⊎_elim}
 use mathlib.Core.Path.{◌≡◌, refl, ap, sym, ◌∙◌, subst}
 use mathlib.Core.List.{List, []}
 use lib.ListN.{length, take}
-use Rattle.frames.specs.Frame.{first_of, action_of}
+use Rattle.qspi.specs.Frame.{first_of, action_of}
 use Rattle.qspi.specs.Shown.{shown_of}
-use Rattle.frames.specs.declared.frame.Stage.{Stage}
+use Rattle.qspi.specs.declared.frame.Stage.{Stage}
 use Rattle.spi_flash.specs.Settling as Settling
 use Rattle.spi_flash.specs.Loan.{Lent}
 use Rattle.spi_flash.specs.Machine.{more}

@@ -6,9 +6,9 @@ use mathlib.Core.List.{List, [], ◌∷◌}
 use lib.ListN.{length}
 use Rattle.qspi.specs.Bus.{fits_of}
 use Rattle.qspi.specs.Choice.{pick}
-use Rattle.frames.specs.Frame.{action_of, exchange_of, advanced_of, taken_in, gave, delivered_by}
+use Rattle.qspi.specs.Frame.{action_of, exchange_of, advanced_of, taken_in, gave, delivered_by}
 use Rattle.qspi.specs.declared.bus.Reply.{Reply}
-use Rattle.frames.specs.declared.frame.Advanced.{Advanced}
+use Rattle.qspi.specs.declared.frame.Advanced.{Advanced}
 use Rattle.spi_flash.specs.Settling as Settling
 use Rattle.spi_flash.specs.Loan.{Lent, ready_for, exchange_for}
 use Rattle.spi_flash.specs.Run.{Event, reply, call, Given, act, ended, failed, refused, Moved, System, entry, at_once, goes_on, begun_with, run_of, call_of, state_after}

@@ -13,17 +13,17 @@ use Rattle.qspi.specs.Command as Command
 use Rattle.qspi.specs.Command.{command_bytes, scratch_least}
 use Rattle.qspi.proofs.Cases.{by_cases}
 use Rattle.qspi.proofs.Filler.{filler-most}
-use Rattle.frames.specs.Frame.{Outcome, first_of, action_of, next_stage, value_of, sink_of, moved_on, advanced_at, advanced_of, taken_in, gave, exchange_of, with_payload, scratch_at, given_scratch}
-use Rattle.frames.specs.ShownBytes.{payload_bytes, start_shown, shown_at}
-use Rattle.frames.proofs.Sent.{shown-bytes}
+use Rattle.qspi.specs.Frame.{Outcome, first_of, action_of, next_stage, value_of, sink_of, moved_on, advanced_at, advanced_of, taken_in, gave, exchange_of, with_payload, scratch_at, given_scratch}
+use Rattle.qspi.specs.ShownBytes.{payload_bytes, start_shown, shown_at}
+use Rattle.qspi.proofs.Sent.{shown-bytes}
 use Rattle.qspi.specs.declared.bus.Reply.{Reply}
 use Rattle.qspi.specs.declared.command.Command as Declared
 use Rattle.qspi.specs.declared.transfer.Payload.{Payload}
 use Rattle.qspi.specs.declared.transfer.Body.{Body}
 use Rattle.qspi.specs.declared.transfer.Transfer.{Transfer}
-use Rattle.frames.specs.declared.frame.Advanced.{Advanced}
-use Rattle.frames.specs.declared.frame.Frame.{Frame}
-use Rattle.frames.specs.declared.frame.Stage.{Stage}
+use Rattle.qspi.specs.declared.frame.Advanced.{Advanced}
+use Rattle.qspi.specs.declared.frame.Frame.{Frame}
+use Rattle.qspi.specs.declared.frame.Stage.{Stage}
 use Rattle.spi_flash.specs.declared.loan.Takes.{Takes}
 use Rattle.spi_flash.specs.Loan.{Lent, ready_for}
 use Rattle.spi_flash.specs.Run.{Event, reply, call, Moved, goes_on}

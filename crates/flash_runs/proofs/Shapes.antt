@@ -7,8 +7,8 @@ use lib.ListN.{length}
 use Rattle.std.specs.Prelude.{Result, Ok, Err}
 use Rattle.qspi.specs.Choice.{pick}
 use Rattle.qspi.specs.declared.bus.Reply.{Reply}
-use Rattle.frames.specs.Frame.{Outcome, exchange_of, delivered_by}
-use Rattle.frames.specs.declared.frame.Exchanged.{Exchanged}
+use Rattle.qspi.specs.Frame.{Outcome, exchange_of, delivered_by}
+use Rattle.qspi.specs.declared.frame.Exchanged.{Exchanged}
 use Rattle.spi_flash.specs.Entry.{entry_of}
 use Rattle.spi_flash.specs.Beginning.{Calls, told, entered, opened, freed, constructed, begun, at_rest, begin_at, begins}
 use Rattle.spi_flash.specs.Loan.{Lent, ready_for, exchange_for}

@@ -5,11 +5,11 @@ use mathlib.Core.Path.{◌≡◌, refl}
 use mathlib.Core.List.{List}
 use lib.ListN.{length}
 use Rattle.qspi.specs.Bus.{fits_of}
-use Rattle.frames.specs.Frame.{Outcome, action_of, exchange_of, advanced_of, taken_in, gave, given_scratch, delivered_by}
+use Rattle.qspi.specs.Frame.{Outcome, action_of, exchange_of, advanced_of, taken_in, gave, given_scratch, delivered_by}
 use Rattle.qspi.specs.declared.bus.Reply.{Reply}
-use Rattle.frames.specs.declared.frame.Advanced.{Advanced}
-use Rattle.frames.specs.declared.frame.Exchanged.{Exchanged}
-use Rattle.frames.specs.declared.frame.Frame.{Frame}
+use Rattle.qspi.specs.declared.frame.Advanced.{Advanced}
+use Rattle.qspi.specs.declared.frame.Exchanged.{Exchanged}
+use Rattle.qspi.specs.declared.frame.Frame.{Frame}
 use Rattle.spi_flash.specs.Loan.{Lent, ready_for, exchange_for}
 use Rattle.spi_flash.specs.Machine.{lent_as, refusing}
 use Rattle.spi_flash.specs.declared.error.FlashError.{FlashError}

@@ -8,8 +8,8 @@ use lib.ListN.{length, take}
 use Rattle.qspi.specs.Bytes.{AllBytes}
 use Rattle.qspi.specs.declared.bus.Reply.{Reply}
 use Rattle.qspi.specs.declared.transfer.Transfer.{Transfer}
-use Rattle.frames.specs.ShownBytes.{start_shown}
-use Rattle.frames.specs.Frame.{Outcome}
+use Rattle.qspi.specs.ShownBytes.{start_shown}
+use Rattle.qspi.specs.Frame.{Outcome}
 use Rattle.spi_flash.specs.Loan.{Lent}
 use Rattle.spi_flash.specs.Machine.{Onward, Simulates, tree}
 use Rattle.spi_flash.specs.Path.{delays, actions, Bounded, Reaches, Ends}

@@ -8,7 +8,7 @@ use mathlib.Core.List.{List, [], ◌∷◌}
 use lib.ListN.{length}
 use lib.Dec.{ltb}
 use borrow.Author.Tests.{le-ltb}
-use Rattle.frames.specs.Frame.{first_of}
+use Rattle.qspi.specs.Frame.{first_of}
 use Rattle.qspi.specs.Command.{scratch_least}
 use Rattle.qspi.specs.declared.transfer.Transfer.{Transfer}
 use Rattle.spi_flash.specs.Entry.{entry_of}

@@ -7,15 +7,15 @@ use mathlib.Core.List.{List, [], ◌∷◌}
 use lib.ListN.{length}
 use borrow.Author.Tests.{eqb-true}
 use Rattle.qspi.specs.Bus.{awaits_of, fits_at, fits_of}
-use Rattle.frames.specs.Frame.{Outcome, first_of, action_at, action_of, frame_at, advanced_at, advanced_of, taken_in, gave, exchange_of}
-use Rattle.frames.specs.ShownBytes.{start_shown, shown_at}
-use Rattle.frames.proofs.Sent.{shown-bytes}
+use Rattle.qspi.specs.Frame.{Outcome, first_of, action_at, action_of, frame_at, advanced_at, advanced_of, taken_in, gave, exchange_of}
+use Rattle.qspi.specs.ShownBytes.{start_shown, shown_at}
+use Rattle.qspi.proofs.Sent.{shown-bytes}
 use Rattle.qspi.specs.declared.bus.Reply.{Reply}
 use Rattle.qspi.specs.declared.transfer.Body.{Body}
 use Rattle.qspi.specs.declared.transfer.Transfer.{Transfer}
-use Rattle.frames.specs.declared.frame.Stage.{Stage}
-use Rattle.frames.specs.declared.frame.Advanced.{Advanced}
-use Rattle.frames.specs.declared.frame.Frame.{Frame}
+use Rattle.qspi.specs.declared.frame.Stage.{Stage}
+use Rattle.qspi.specs.declared.frame.Advanced.{Advanced}
+use Rattle.qspi.specs.declared.frame.Frame.{Frame}
 use Rattle.spi_flash.specs.declared.error.FlashError.{FlashError}
 use Rattle.spi_flash.specs.declared.loan.Takes.{Takes}
 use Rattle.spi_flash.specs.Loan.{Lent, ready_for}

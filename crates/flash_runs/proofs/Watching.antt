@@ -7,8 +7,8 @@ use mathlib.Core.List.{List, []}
 use lib.ListN.{length}
 use Rattle.qspi.specs.Command.{command_bytes}
 use Rattle.qspi.specs.Shown.{Shown, high, write, read, quad_read, quad_write}
-use Rattle.frames.specs.Frame.{Outcome, value_of}
-use Rattle.frames.specs.ShownBytes.{payload_bytes, start_shown}
+use Rattle.qspi.specs.Frame.{Outcome, value_of}
+use Rattle.qspi.specs.ShownBytes.{payload_bytes, start_shown}
 use Rattle.qspi.specs.declared.command.Command.{Command}
 use Rattle.qspi.specs.declared.transfer.Sink.{Sink}
 use Rattle.qspi.specs.declared.transfer.Body.{Body}

@@ -1,5 +1,5 @@
 -- Sham drivers (document 01, "These sham drivers may not prove"), made from a driver by changing what it does or what it claims: none of
--- them keeps the promises. Sham runs of a NAND read are in specs/Shams.antt of nand_rust.
+-- them keeps the promises. Sham runs of a NAND read are in specs/Shams.antt of nand_runs.
 use Rattle.std.specs.Prelude.{ℕ, true, ◌≡◌, List}
 use Rattle.qspi.specs.Bytes.{AllBytes}
 use Rattle.spi_flash.specs.Loan.{Lent, ready_for}

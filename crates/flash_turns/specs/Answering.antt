@@ -3,11 +3,11 @@ use Rattle.std.specs.Prelude.{ℕ, List}
 use Rattle.machine.specs.declared.state.Given.{Given}
 use Rattle.flash_calls.specs.declared.given.Answer.{Answer}
 use Rattle.flash_words.specs.declared.asked.Ask.{Ask}
-use Rattle.trace_turns.specs.Place.{gave_to}
-use Rattle.trace_turns.specs.declared.place.Place.{Place}
-use Rattle.dialect.specs.Hears.{Hearing, awaited_of}
-use Rattle.dialect.specs.declared.hears.Hears.{Hears}
-use Rattle.dialect.specs.declared.settings.Settings.{Settings}
+use Rattle.trace_words.specs.Place.{gave_to}
+use Rattle.trace_words.specs.declared.place.Place.{Place}
+use Rattle.flash_turns.specs.Hears.{Hearing, awaited_of}
+use Rattle.flash_turns.specs.declared.hears.Hears.{Hears}
+use Rattle.flash_turns.specs.declared.settings.Settings.{Settings}
 use Rattle.flash_turns.specs.declared.answering.Next.{Next}
 
 abbrev pub next_to : Place → Ask → Next

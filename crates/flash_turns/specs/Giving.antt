@@ -5,10 +5,10 @@ use Rattle.spi_flash.specs.declared.loan.Takes.{Takes}
 use Rattle.machine.specs.declared.state.Given.{Given}
 use Rattle.flash_calls.specs.declared.given.Answer.{Answer}
 use Rattle.flash_words.specs.End.{given_lines}
-use Rattle.trace_turns.specs.Place.{end_mode, counted_of, in_mode}
-use Rattle.trace_turns.specs.Show.{ShownAt, shown_to}
-use Rattle.trace_turns.specs.declared.place.Mode.{Mode}
-use Rattle.trace_turns.specs.declared.place.Place.{Place}
+use Rattle.trace_words.specs.Place.{end_mode, counted_of, in_mode}
+use Rattle.trace_words.specs.Show.{ShownAt, shown_to}
+use Rattle.trace_words.specs.declared.place.Mode.{Mode}
+use Rattle.trace_words.specs.declared.place.Place.{Place}
 
 abbrev pub given_mode : Given Answer → Takes → Mode
 given_mode (Given.Act action) takes = Mode.Awaiting

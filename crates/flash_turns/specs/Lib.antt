@@ -3,3 +3,7 @@ pub mod Reading
 pub mod Giving
 pub mod Answering
 pub mod Turn
+pub mod Settings
+pub mod Words
+pub mod Heard
+pub mod Hears

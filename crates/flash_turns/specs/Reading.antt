@@ -8,15 +8,15 @@ use Rattle.case_text.specs.declared.line.Line.{Line}
 use Rattle.trace_words.specs.Heard.{is_call}
 use Rattle.trace_words.specs.Loan.{laid_of}
 use Rattle.trace_words.specs.Print.{call_line}
-use Rattle.trace_turns.specs.Between.{between_at}
-use Rattle.trace_turns.specs.Place.{in_mode, started_of}
-use Rattle.trace_turns.specs.declared.place.Mode.{Mode}
-use Rattle.trace_turns.specs.declared.place.Place.{Place}
+use Rattle.trace_words.specs.Between.{between_at}
+use Rattle.trace_words.specs.Place.{in_mode, started_of}
+use Rattle.trace_words.specs.declared.place.Mode.{Mode}
+use Rattle.trace_words.specs.declared.place.Place.{Place}
 use Rattle.flash_words.specs.declared.asked.Ask.{Ask}
 use Rattle.flash_words.specs.declared.asked.Asked.{Asked}
-use Rattle.dialect.specs.Settings.{settled_by}
-use Rattle.dialect.specs.Words.{line_of, asked_of}
-use Rattle.dialect.specs.declared.settings.Settings.{Settings}
+use Rattle.flash_turns.specs.Settings.{settled_by}
+use Rattle.flash_turns.specs.Words.{line_of, asked_of}
+use Rattle.flash_turns.specs.declared.settings.Settings.{Settings}
 
 -- where the turn leaves the trace, what it asks, the room and what was printed
 pub record Called : Type 0 where

@@ -3,9 +3,9 @@ use Rattle.std.specs.Prelude.{Bool, true, false}
 use Rattle.machine.specs.declared.state.Given.{Given}
 use Rattle.flash_calls.specs.declared.given.Answer.{Answer}
 use Rattle.flash_words.specs.declared.asked.Ask.{Ask}
-use Rattle.trace_turns.specs.Place.{started_of}
-use Rattle.trace_turns.specs.declared.place.Place.{Place}
-use Rattle.dialect.specs.declared.settings.Settings.{Settings}
+use Rattle.trace_words.specs.Place.{started_of}
+use Rattle.trace_words.specs.declared.place.Place.{Place}
+use Rattle.flash_turns.specs.declared.settings.Settings.{Settings}
 use Rattle.flash_turns.specs.declared.state.Turn.{Turn}
 
 abbrev pub turn_to : Settings → Place → Ask → Turn

@@ -4,10 +4,10 @@ use Rattle.lines.specs.Text.{Text}
 use Rattle.machine.specs.declared.state.Given.{Given}
 use Rattle.flash_calls.specs.declared.given.Answer.{Answer}
 use Rattle.flash_words.specs.declared.asked.Ask.{Ask}
-use Rattle.trace_turns.specs.Show.{ShownAt, showing_of, bad_of}
-use Rattle.trace_turns.specs.declared.place.Mode.{Mode}
-use Rattle.trace_turns.specs.declared.place.Place.{Place}
-use Rattle.dialect.specs.declared.settings.Settings.{Settings}
+use Rattle.trace_words.specs.Show.{ShownAt, showing_of, bad_of}
+use Rattle.trace_words.specs.declared.place.Mode.{Mode}
+use Rattle.trace_words.specs.declared.place.Place.{Place}
+use Rattle.flash_turns.specs.declared.settings.Settings.{Settings}
 use Rattle.flash_turns.specs.Answering.{Answered, answering_of}
 use Rattle.flash_turns.specs.Giving.{giving_of}
 use Rattle.flash_turns.specs.Reading.{Called, reading_of}

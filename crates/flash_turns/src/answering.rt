@@ -2,12 +2,12 @@
 ghost use Rattle.std.specs.Prelude.{◌≡◌};
 ghost use Rattle.flash_turns.specs.Answering.{heard_then, answered_to, answering_of};
 
-use dialect::hears;
-use dialect::hears::Hears;
-use dialect::settings::Settings;
+use crate::hears;
+use crate::hears::Hears;
+use crate::settings::Settings;
 use flash_calls::given::Given;
 use flash_words::asked::Ask;
-use trace_turns::place::Place;
+use trace_words::place::Place;
 
 // A Turn without its settings, which no reply changes.
 #[derive(Clone, Copy)]

@@ -1,15 +1,15 @@
 // A turn that prints what the driver has given. The memory is lent one by one, as C lends it.
 ghost use Rattle.std.specs.Prelude.{◌≡◌};
 ghost use Rattle.lines.specs.Writing.{text_in, SameRoom};
-ghost use Rattle.trace_turns.specs.Show.{shown_to};
+ghost use Rattle.trace_words.specs.Show.{shown_to};
 ghost use Rattle.flash_turns.specs.Giving.{given_mode, giving_of};
 
 use flash_calls::given::Given;
 use flash_words::end;
 use lines::text::Writer;
 use spi_flash::loan::Takes;
-use trace_turns::place;
-use trace_turns::place::{Mode, Place};
+use trace_words::place;
+use trace_words::place::{Mode, Place};
 
 fn given_mode(given: Given, takes: Takes) -> Mode
     ensures { result ≡ given_mode given takes }

@@ -3,15 +3,14 @@ ghost use Rattle.std.specs.Prelude.{◌≡◌};
 ghost use Rattle.lines.specs.Writing.{text_in, SameRoom};
 ghost use Rattle.flash_turns.specs.Reading.{called_to, called_of, reading_of};
 
+use crate::settings::Settings;
 use crate::state::Turn;
+use crate::{settings, words};
 use case_text::{line, word};
-use dialect::settings::Settings;
-use dialect::{settings, words};
 use flash_words::asked::Ask;
 use lines::text::Writer;
-use trace_turns::between;
-use trace_turns::place::{Mode, Place};
-use trace_words::{heard, loan, print};
+use trace_words::place::{Mode, Place};
+use trace_words::{between, heard, loan, print};
 
 // Asks for the call of the next line, lays what it lends into the room, and prints its name.
 #[tactic(auto, unfolding(crate::specs::Reading::called_of))]

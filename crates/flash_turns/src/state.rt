@@ -2,10 +2,10 @@
 ghost use Rattle.std.specs.Prelude.{◌≡◌};
 ghost use Rattle.flash_turns.specs.State.{shown_turn, begun_of, begun_in};
 
-use dialect::settings::Settings;
+use crate::settings::Settings;
 use flash_calls::given::Given;
 use flash_words::asked::Ask;
-use trace_turns::place::Place;
+use trace_words::place::Place;
 
 #[derive(Clone, Copy)]
 pub struct Turn {

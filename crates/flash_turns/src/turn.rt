@@ -6,13 +6,13 @@ ghost use Rattle.lines.specs.Writing.{text_in, SameRoom};
 ghost use Rattle.flash_turns.specs.Turn.{next_turn, taken_to, turn_of};
 
 use crate::answering::Next;
+use crate::settings::Settings;
 use crate::state::Turn;
 use crate::{answering, giving, reading};
-use dialect::settings::Settings;
 use flash_calls::given::Given;
 use lines::text::Writer;
-use trace_turns::place::{Mode, Place};
-use trace_turns::show;
+use trace_words::place::{Mode, Place};
+use trace_words::show;
 
 fn asking(settings: Settings, next: Next) -> Turn
     ensures { result ≡ next_turn settings next }

@@ -1,6 +1,6 @@
 -- Every driver as the step machine has it (specs/Shape.antt of spi_flash).
 use Rattle.std.specs.Prelude.{ℕ, Bool, Option, Some, None, Ok, Err}
-use Rattle.frames.specs.declared.frame.Frame.{Frame}
+use Rattle.qspi.specs.declared.frame.Frame.{Frame}
 use Rattle.qspi.specs.declared.bus.Action.{Action}
 use Rattle.spi_flash.specs.Shape as Shape
 use Rattle.spi_flash.specs.Shape.{go, end, fail, constructing, telling, releasing, working, job_of, idle, busy, acts, ends, fails, refuses}

@@ -6,7 +6,7 @@ ghost use Rattle.machine.specs.Shape.{then_as, opening_as, shape};
 use crate::part::{FlashOf, OpeningOf, Part, SteppedOf, ThenOf};
 use crate::state::{Flash, Given, Stepped};
 use crate::then::Opening;
-use frames::loan::Lengths;
+use qspi::loan::Lengths;
 use qspi::transfer::Transfer;
 use spi_flash::entry;
 use spi_flash::error::FlashError;

@@ -1,14 +1,14 @@
 // What is a part's own.
 ghost use Rattle.std.specs.Prelude.{◌≡◌};
-ghost use Rattle.frames.specs.Frame.{Outcome};
+ghost use Rattle.qspi.specs.Frame.{Outcome};
 ghost use Rattle.spi_flash.specs.Beginning.{Calls};
 ghost use Rattle.spi_flash.specs.Shape.{Then};
 ghost use Rattle.machine.specs.Shape.{then_as, opening_as};
 
 use crate::state::{Flash, Stepped};
 use crate::then::{Opening, Then};
-use frames::frame::Outcome;
-use frames::loan::Lengths;
+use qspi::frame::Outcome;
+use qspi::loan::Lengths;
 
 pub trait Part {
     type Setup: Copy;

@@ -5,8 +5,8 @@ ghost use Rattle.machine.specs.Shape.{then_as, shape, flash_of, started_of, refu
 
 use crate::state::{Flash, Given, Job, Stepped};
 use crate::then::{Next, Then};
-use frames::frame;
 use qspi::bus::Action;
+use qspi::frame;
 use qspi::transfer::Transfer;
 use spi_flash::error::FlashError;
 use spi_flash::loan::Takes;

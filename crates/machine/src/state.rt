@@ -1,6 +1,6 @@
 // A driver's state and what a step gives, over its setup S, its phases P and its answers A.
-use frames::frame::Frame;
 use qspi::bus::Action;
+use qspi::frame::Frame;
 use spi_flash::error::FlashError;
 use spi_flash::loan::Takes;
 

@@ -1,15 +1,15 @@
 // One reply to the action that is out.
 ghost use Rattle.std.specs.Prelude.{◌≡◌, take};
-ghost use Rattle.frames.specs.Loan.{SameLoan, lending, returning};
+ghost use Rattle.qspi.specs.Loan.{SameLoan, lending, returning};
 ghost use Rattle.spi_flash.specs.Replying.{exchanged, stepped_to, steps};
 ghost use Rattle.machine.specs.Shape.{job_as, shape};
 
 use crate::part::{FlashOf, Part, SteppedOf};
 use crate::state::{Flash, Job};
-use frames::exchange;
-use frames::frame::Exchanged;
-use frames::loan::Loan;
 use qspi::bus::Reply;
+use qspi::exchange;
+use qspi::frame::Exchanged;
+use qspi::loan::Loan;
 use spi_flash::error::FlashError;
 use spi_flash::loan;
 

@@ -2,12 +2,12 @@
 use Rattle.std.specs.Prelude.{ℕ, false, None}
 use Rattle.spi_flash.specs.Beginning.{Calls, begins}
 use Rattle.spi_nand.specs.Config.{in_bounds, single_config}
-use Rattle.nand_answers.specs.declared.answer.Answer.{Answer}
-use Rattle.nand_phases.specs.declared.call.Call.{Call}
-use Rattle.nand_phases.specs.declared.phase.Phase.{Phase}
-use Rattle.nand_phases.specs.declared.setup.Setup.{Setup}
-use Rattle.nand_opening.specs.Opening.{opening_of}
-pub use Rattle.nand_opening.specs.Opening.{given_at, given_geometry, fresh_setup}
+use Rattle.spi_nand.specs.declared.answer.Answer.{Answer}
+use Rattle.spi_nand.specs.declared.call.Call.{Call}
+use Rattle.spi_nand.specs.declared.phase.Phase.{Phase}
+use Rattle.spi_nand.specs.declared.setup.Setup.{Setup}
+use Rattle.nand_steps.specs.Opening.{opening_of}
+pub use Rattle.nand_steps.specs.Opening.{given_at, given_geometry, fresh_setup}
 use Rattle.machine.specs.Shape.{opening_as}
 use Rattle.nand_driver.specs.Settle.{SpiNandFlash, Stepped, flash_of, nand_shape}
 

@@ -5,9 +5,9 @@ pub use Rattle.machine.specs.Shape.{then_as, running_as, given_as, flash_of, ref
 use Rattle.machine.specs.declared.state.Flash as Machine
 use Rattle.machine.specs.declared.state.Given as Gives
 use Rattle.machine.specs.declared.state.Stepped as Steps
-use Rattle.nand_answers.specs.declared.answer.Answer.{Answer}
-use Rattle.nand_phases.specs.declared.phase.Phase.{Phase}
-use Rattle.nand_phases.specs.declared.setup.Setup.{Setup}
+use Rattle.spi_nand.specs.declared.answer.Answer.{Answer}
+use Rattle.spi_nand.specs.declared.phase.Phase.{Phase}
+use Rattle.spi_nand.specs.declared.setup.Setup.{Setup}
 
 abbrev pub SpiNandFlash : Type 0
 SpiNandFlash = Machine.Flash Setup Phase

@@ -1,13 +1,13 @@
 -- What a reply does to the SPI NAND driver (specs/Replying.antt of spi_flash).
 use Rattle.std.specs.Prelude.{ℕ, List}
 use Rattle.qspi.specs.declared.bus.Reply.{Reply}
-use Rattle.frames.specs.Frame.{Outcome}
+use Rattle.qspi.specs.Frame.{Outcome}
 use Rattle.spi_flash.specs.Replying.{steps, delivered_in}
 pub use Rattle.spi_flash.specs.Replying.{AfterStep, stepped_to}
 use Rattle.spi_flash.specs.Shape as Shape
-use Rattle.nand_answers.specs.declared.answer.Answer.{Answer}
-use Rattle.nand_phases.specs.declared.phase.Phase.{Phase}
-use Rattle.nand_phases.specs.declared.setup.Setup.{Setup}
+use Rattle.spi_nand.specs.declared.answer.Answer.{Answer}
+use Rattle.spi_nand.specs.declared.phase.Phase.{Phase}
+use Rattle.spi_nand.specs.declared.setup.Setup.{Setup}
 use Rattle.nand_next.specs.Next.{next_of}
 use Rattle.nand_driver.specs.Settle.{SpiNandFlash, Stepped, then_as, nand_shape}
 

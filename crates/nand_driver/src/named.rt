@@ -4,9 +4,9 @@ ghost use Rattle.std.specs.Prelude.{◌≡◌, length};
 ghost use Rattle.nand_driver.specs.Call.{begin_of};
 
 use crate::part::{Nand, SpiNandFlash, Stepped};
-use frames::loan::Lengths;
 use machine::call::begin;
-use nand_phases::call::Call;
+use qspi::loan::Lengths;
+use spi_nand::call::Call;
 use spi_nand::config::SpiNandConfig;
 
 pub fn new(flash: SpiNandFlash, scratch: &[u8]) -> Stepped

@@ -3,18 +3,18 @@ ghost use Rattle.std.specs.Prelude.{◌≡◌};
 ghost use Rattle.nand_driver.specs.Call.{nand_calls, not_built};
 ghost use Rattle.nand_driver.specs.Step.{nand_next};
 
-use frames::frame::Outcome;
-use frames::loan::Lengths;
 use machine::part::Part;
 use machine::state;
-use nand_answers::answer::Answer;
 use nand_next::next;
-use nand_opening::opening;
-use nand_phases::call::Call;
-use nand_phases::phase::Phase;
-use nand_phases::setup::Setup;
+use nand_steps::opening;
 use nand_steps::then::{Opening, Then};
+use qspi::frame::Outcome;
+use qspi::loan::Lengths;
+use spi_nand::answer::Answer;
+use spi_nand::call::Call;
 use spi_nand::config::SpiNandConfig;
+use spi_nand::phase::Phase;
+use spi_nand::setup::Setup;
 
 pub type SpiNandFlash = state::Flash<Setup, Phase>;
 

@@ -3,30 +3,30 @@ use Rattle.std.specs.Prelude.{Bool, true, false, ℕ, Ok, Err}
 use Rattle.qspi.specs.Choice.{pick}
 use Rattle.qspi.specs.declared.transfer.Payload.{Payload}
 use Rattle.qspi.specs.Bytes.{byte_of}
-use Rattle.frames.specs.Frame.{Outcome}
+use Rattle.qspi.specs.Frame.{Outcome}
 use Rattle.spi_flash.specs.declared.error.FlashError.{FlashError}
 use Rattle.spi_nand.specs.Command.{set_feature_command, block_erase_command}
 use Rattle.spi_nand.specs.Config.{first_page_of}
 use Rattle.spi_nand.specs.Status.{status_of, write_enabled_of, configuration_of, protection_of}
 use Rattle.spi_nand.specs.declared.config.NandJedecId.{NandJedecId}
 use Rattle.spi_nand.specs.declared.status.Status.{Status}
-use Rattle.nand_answers.specs.declared.answer.Answer.{Answer}
-use Rattle.nand_phases.specs.BringUp.{in_bring_up}
-use Rattle.nand_phases.specs.declared.phase.Asked.{Asked}
-use Rattle.nand_phases.specs.declared.phase.EnableFor.{EnableFor}
-use Rattle.nand_phases.specs.declared.phase.EnableStep.{EnableStep}
-use Rattle.nand_phases.specs.declared.phase.EraseFor.{EraseFor}
-use Rattle.nand_phases.specs.declared.phase.Phase.{Phase}
-use Rattle.nand_phases.specs.declared.phase.ProgramFor.{ProgramFor}
-use Rattle.nand_phases.specs.declared.phase.RegisterFor.{RegisterFor}
-use Rattle.nand_phases.specs.declared.phase.ResetFor.{ResetFor}
-use Rattle.nand_phases.specs.declared.phase.Task.{Task}
-use Rattle.nand_phases.specs.declared.setup.Setup.{Setup}
-use Rattle.nand_ranges.specs.Block.{marker_then, fill_from, filled_then, mark_then}
-use Rattle.nand_pages.specs.Cache.{compared_then, load_program_then}
+use Rattle.spi_nand.specs.declared.answer.Answer.{Answer}
+use Rattle.spi_nand.specs.BringUp.{in_bring_up}
+use Rattle.spi_nand.specs.declared.phase.Asked.{Asked}
+use Rattle.spi_nand.specs.declared.phase.EnableFor.{EnableFor}
+use Rattle.spi_nand.specs.declared.phase.EnableStep.{EnableStep}
+use Rattle.spi_nand.specs.declared.phase.EraseFor.{EraseFor}
+use Rattle.spi_nand.specs.declared.phase.Phase.{Phase}
+use Rattle.spi_nand.specs.declared.phase.ProgramFor.{ProgramFor}
+use Rattle.spi_nand.specs.declared.phase.RegisterFor.{RegisterFor}
+use Rattle.spi_nand.specs.declared.phase.ResetFor.{ResetFor}
+use Rattle.spi_nand.specs.declared.phase.Task.{Task}
+use Rattle.spi_nand.specs.declared.setup.Setup.{Setup}
+use Rattle.nand_steps.specs.Block.{marker_then, fill_from, filled_then, mark_then}
+use Rattle.nand_steps.specs.Cache.{compared_then, load_program_then}
 use Rattle.nand_steps.specs.Go.{end_with, done, look, send, reset}
-use Rattle.nand_pages.specs.Page.{program_then}
-use Rattle.nand_ranges.specs.Read.{piece_read_then}
+use Rattle.nand_steps.specs.Page.{program_then}
+use Rattle.nand_steps.specs.Read.{piece_read_then}
 use Rattle.nand_steps.specs.Register.{id_of, identified_then, configure_then, check_configuration, unprotect_then, brought_up, disable_quad, quad_disabled}
 use Rattle.nand_steps.specs.Then.{Then}
 use Rattle.nand_next.specs.Wait.{waiting_then}

@@ -7,15 +7,15 @@ use Rattle.spi_flash.specs.declared.wait.Wait.{Wait}
 use Rattle.spi_nand.specs.Opcode.{timings_of}
 use Rattle.spi_nand.specs.Status.{busy_of}
 use Rattle.spi_nand.specs.declared.status.Status.{Status}
-use Rattle.nand_phases.specs.Transfer.{task_operation}
-use Rattle.nand_phases.specs.declared.phase.Phase.{Phase}
-use Rattle.nand_phases.specs.declared.phase.ResetFor.{ResetFor}
-use Rattle.nand_phases.specs.declared.phase.Task.{Task}
-use Rattle.nand_phases.specs.declared.phase.WaitStep.{WaitStep}
-use Rattle.nand_phases.specs.declared.setup.Setup.{Setup}
+use Rattle.spi_nand.specs.Transfer.{task_operation}
+use Rattle.spi_nand.specs.declared.phase.Phase.{Phase}
+use Rattle.spi_nand.specs.declared.phase.ResetFor.{ResetFor}
+use Rattle.spi_nand.specs.declared.phase.Task.{Task}
+use Rattle.spi_nand.specs.declared.phase.WaitStep.{WaitStep}
+use Rattle.spi_nand.specs.declared.setup.Setup.{Setup}
 use Rattle.nand_steps.specs.Go.{go_to, done, ask_id, look, verdict}
-use Rattle.nand_ranges.specs.Block.{erased_then}
-use Rattle.nand_pages.specs.Page.{loaded_then, judged_then, programmed_then}
+use Rattle.nand_steps.specs.Block.{erased_then}
+use Rattle.nand_steps.specs.Page.{loaded_then, judged_then, programmed_then}
 use Rattle.nand_steps.specs.Register.{written_then}
 use Rattle.nand_steps.specs.Then.{Then}
 

@@ -1,25 +1,23 @@
 // What follows each transfer.
 ghost use Rattle.std.specs.Prelude.{◌≡◌};
-ghost use Rattle.nand_phases.specs.BringUp.{in_bring_up};
+ghost use Rattle.spi_nand.specs.BringUp.{in_bring_up};
 ghost use Rattle.nand_steps.specs.Go.{look, reset};
 ghost use Rattle.nand_next.specs.Next.{write_then, load_page_then, start_erase, enabled_then, latched_then, enabling_then, identify_then, answered_then, after_phase, next_of};
 
 use crate::wait;
-use frames::frame::Outcome;
-use nand_answers::answer::Answer;
-use nand_pages::{cache, page};
-use nand_phases::phase::{
-    Asked, EnableFor, EnableStep, EraseFor, Phase, ProgramFor, RegisterFor, ResetFor, Task,
-};
-use nand_phases::setup::Setup;
-use nand_ranges::{block, read};
 use nand_steps::then::Then;
-use nand_steps::{go, register};
+use nand_steps::{block, cache, go, page, read, register};
 use qspi::bytes;
+use qspi::frame::Outcome;
 use qspi::transfer::Payload;
 use spi_flash::error::FlashError;
+use spi_nand::answer::Answer;
 use spi_nand::command;
 use spi_nand::config::NandJedecId;
+use spi_nand::phase::{
+    Asked, EnableFor, EnableStep, EraseFor, Phase, ProgramFor, RegisterFor, ResetFor, Task,
+};
+use spi_nand::setup::Setup;
 use spi_nand::status::{Configuration, Protection, Status};
 
 // ---- write_enable, and what it is for

@@ -4,19 +4,16 @@
 ghost use Rattle.std.specs.Prelude.{◌≡◌};
 ghost use Rattle.nand_next.specs.Wait.{reset_then, resume_task, judge_task, look_then, pause_then, wait_then, sent_then, looked_then, waiting_then};
 
-use nand_pages::page;
-use nand_phases::phase::{Phase, ResetFor, Task, WaitStep};
-use nand_phases::setup::Setup;
-use nand_phases::transfer;
-use nand_ranges::block;
 use nand_steps::then::Then;
-use nand_steps::{go, register};
+use nand_steps::{block, go, page, register};
 use qspi::transfer::Transfer;
 use spi_flash::error::FlashError;
 use spi_flash::wait;
 use spi_flash::wait::Wait;
-use spi_nand::opcode;
+use spi_nand::phase::{Phase, ResetFor, Task, WaitStep};
+use spi_nand::setup::Setup;
 use spi_nand::status::Status;
+use spi_nand::{opcode, transfer};
 
 #[tactic(auto, unfolding(crate::specs::Wait::reset_then))]
 fn reset_done(setup: Setup, why: ResetFor) -> Then

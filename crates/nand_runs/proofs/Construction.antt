@@ -20,15 +20,15 @@ use Rattle.spi_nand.specs.declared.config.SpiNandConfig.{SpiNandConfig}
 use Rattle.spi_nand.specs.declared.status.Configuration.{Configuration}
 use Rattle.spi_nand.specs.declared.status.Protection.{Protection}
 use Rattle.spi_nand.proofs.Geometries.{geometries-hold}
-use Rattle.nand_phases.specs.Setup.{init_of, setup_of, identified_as, with_before}
-use Rattle.nand_phases.specs.Transfer.{register_transfer}
-use Rattle.nand_phases.specs.declared.call.Call.{Call}
-use Rattle.nand_phases.specs.declared.phase.Phase.{Phase}
-use Rattle.nand_phases.specs.declared.setup.Setup.{Setup}
+use Rattle.spi_nand.specs.Setup.{init_of, setup_of, identified_as, with_before}
+use Rattle.spi_nand.specs.Transfer.{register_transfer}
+use Rattle.spi_nand.specs.declared.call.Call.{Call}
+use Rattle.spi_nand.specs.declared.phase.Phase.{Phase}
+use Rattle.spi_nand.specs.declared.setup.Setup.{Setup}
 use Rattle.nand_steps.specs.Register.{geometry_at, geometry_for}
 use Rattle.nand_driver.specs.Call.{given_at, fresh_setup}
-use Rattle.nand_rust.specs.Rust.{Nothing, MAX-VERIFY-PAGE-SIZE, wanted-of, read-configuration, read-protection, write-register, reset, jedec-id, reset-and-identify, ensure-configuration, unprotect, bring-up, resolved, constructed, with-config}
-use Rattle.nand_rust.specs.Program.{Left, page_taken, refused-page, program_of, rust_program}
+use Rattle.nand_runs.specs.Rust.{Nothing, MAX-VERIFY-PAGE-SIZE, wanted-of, read-configuration, read-protection, write-register, reset, jedec-id, reset-and-identify, ensure-configuration, unprotect, bring-up, resolved, constructed, with-config}
+use Rattle.nand_runs.specs.Program.{Left, page_taken, refused-page, program_of, rust_program}
 use Rattle.nand_runs.proofs.Meaning.{DONE, brought-up, unprotected, unprotect-on, configured, check-configured, configure-on, identified, meaning_at, meaning}
 
 -- ---- bring_up behind the identification

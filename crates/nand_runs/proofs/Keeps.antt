@@ -11,7 +11,7 @@ use Rattle.qspi.proofs.Cases.{keeps-pick}
 use Rattle.qspi.specs.declared.transfer.Payload.{Payload}
 use Rattle.qspi.specs.declared.transfer.Sink.{Sink}
 use Rattle.qspi.specs.declared.transfer.Transfer.{Transfer}
-use Rattle.frames.specs.Frame.{Outcome}
+use Rattle.qspi.specs.Frame.{Outcome}
 use Rattle.spi_flash.specs.Machine.{Onward}
 use Rattle.spi_flash.specs.Wait.{first_wait, next_wait}
 use Rattle.spi_flash.specs.declared.error.FlashError.{FlashError}
@@ -25,28 +25,28 @@ use Rattle.spi_nand.specs.declared.status.Configuration.{Configuration}
 use Rattle.spi_nand.specs.declared.status.Protection.{Protection}
 use Rattle.spi_nand.specs.declared.status.Status.{Status}
 use Rattle.spi_nand.proofs.Geometries.{geometries-hold}
-use Rattle.nand_answers.specs.declared.answer.Answer.{Answer}
-use Rattle.nand_phases.specs.Setup.{identified_as, with_before, with_protection, with_after}
-use Rattle.nand_phases.specs.Transfer.{in_cache, in_range, place_of, page_at, column_at, chunk_of, filler_of, task_operation}
-use Rattle.nand_phases.specs.declared.phase.Asked.{Asked}
-use Rattle.nand_phases.specs.declared.phase.EnableFor.{EnableFor}
-use Rattle.nand_phases.specs.declared.phase.EraseFor.{EraseFor}
-use Rattle.nand_phases.specs.declared.phase.LoadFor.{LoadFor}
-use Rattle.nand_phases.specs.declared.phase.MarkerFor.{MarkerFor}
-use Rattle.nand_phases.specs.declared.phase.EnableStep.{EnableStep}
-use Rattle.nand_phases.specs.declared.phase.Phase.{Phase}
-use Rattle.nand_phases.specs.declared.phase.WaitStep.{WaitStep}
-use Rattle.nand_phases.specs.declared.phase.ProgramFor.{ProgramFor}
-use Rattle.nand_phases.specs.declared.phase.RegisterFor.{RegisterFor}
-use Rattle.nand_phases.specs.declared.phase.ResetFor.{ResetFor}
-use Rattle.nand_phases.specs.declared.phase.Task.{Task}
-use Rattle.nand_phases.specs.declared.setup.Setup.{Setup}
+use Rattle.spi_nand.specs.declared.answer.Answer.{Answer}
+use Rattle.spi_nand.specs.Setup.{identified_as, with_before, with_protection, with_after}
+use Rattle.spi_nand.specs.Transfer.{in_cache, in_range, place_of, page_at, column_at, chunk_of, filler_of, task_operation}
+use Rattle.spi_nand.specs.declared.phase.Asked.{Asked}
+use Rattle.spi_nand.specs.declared.phase.EnableFor.{EnableFor}
+use Rattle.spi_nand.specs.declared.phase.EraseFor.{EraseFor}
+use Rattle.spi_nand.specs.declared.phase.LoadFor.{LoadFor}
+use Rattle.spi_nand.specs.declared.phase.MarkerFor.{MarkerFor}
+use Rattle.spi_nand.specs.declared.phase.EnableStep.{EnableStep}
+use Rattle.spi_nand.specs.declared.phase.Phase.{Phase}
+use Rattle.spi_nand.specs.declared.phase.WaitStep.{WaitStep}
+use Rattle.spi_nand.specs.declared.phase.ProgramFor.{ProgramFor}
+use Rattle.spi_nand.specs.declared.phase.RegisterFor.{RegisterFor}
+use Rattle.spi_nand.specs.declared.phase.ResetFor.{ResetFor}
+use Rattle.spi_nand.specs.declared.phase.Task.{Task}
+use Rattle.spi_nand.specs.declared.setup.Setup.{Setup}
 use Rattle.nand_steps.specs.Register.{id_of, geometry_at, geometry_for, wanted_for, identified_then, configured_then, configure_then, check_configuration, unprotected_then, unprotect_then, disable_quad, quad_disabled, written_then}
-use Rattle.nand_pages.specs.Cache.{read_cache_then, piece_then, compared_then, load_program_then, payload_length}
-use Rattle.nand_phases.specs.Verdict.{asks_verdict}
-use Rattle.nand_pages.specs.Page.{uncorrectable, page_read_then, is_bad_then, accepted_then, loaded_then, judged_then, program_then, after_program, programmed_then, read_page_then, write_page_then}
-use Rattle.nand_ranges.specs.Read.{read_from, read_then}
-use Rattle.nand_ranges.specs.Block.{is_bad, erase_then, after_erase, erased_then, marker_then, fill_from}
+use Rattle.nand_steps.specs.Cache.{read_cache_then, piece_then, compared_then, load_program_then, payload_length}
+use Rattle.spi_nand.specs.Verdict.{asks_verdict}
+use Rattle.nand_steps.specs.Page.{uncorrectable, page_read_then, is_bad_then, accepted_then, loaded_then, judged_then, program_then, after_program, programmed_then, read_page_then, write_page_then}
+use Rattle.nand_steps.specs.Read.{read_from, read_then}
+use Rattle.nand_steps.specs.Block.{is_bad, erase_then, after_erase, erased_then, marker_then, fill_from}
 use Rattle.nand_steps.specs.Then.{Then}
 use Rattle.nand_steps.specs.Go.{go_to, end_with}
 use Rattle.nand_next.specs.Wait.{reset_then, resume_task, judge_task, wait_then, waiting_then}

@@ -8,14 +8,14 @@ use Rattle.qspi.specs.Bytes.{AllBytes}
 use Rattle.spi_flash.specs.Path.{delays, actions, Bounded, Reaches, Ends}
 use Rattle.flash_runs.specs.Driver.{works_on}
 use Rattle.flash_runs.proofs.Supplies.{Asks, Bounds, Supplies, Known}
-use Rattle.nand_phases.specs.declared.call.Call.{Call}
-use Rattle.nand_phases.specs.declared.phase.Phase.{Phase}
-use Rattle.nand_phases.specs.declared.setup.Setup.{Setup}
-use Rattle.nand_rust.specs.Bound.{delay_bound, weight_of, action_bound}
-use Rattle.nand_rust.specs.Program.{Left, rust_program, program_of}
-use Rattle.nand_rust.specs.ProgramBounds.{Begins, can_end}
-use Rattle.nand_rust.proofs.Begins.{begins}
-use Rattle.nand_rust.proofs.ProgramBounds.{program-bounds}
+use Rattle.spi_nand.specs.declared.call.Call.{Call}
+use Rattle.spi_nand.specs.declared.phase.Phase.{Phase}
+use Rattle.spi_nand.specs.declared.setup.Setup.{Setup}
+use Rattle.nand_runs.specs.Bound.{delay_bound, weight_of, action_bound}
+use Rattle.nand_runs.specs.Program.{Left, rust_program, program_of}
+use Rattle.nand_runs.specs.ProgramBounds.{Begins, can_end}
+use Rattle.nand_runs.proofs.Begins.{begins}
+use Rattle.nand_runs.proofs.ProgramBounds.{program-bounds}
 use Rattle.nand_runs.specs.Run.{sort_of, nand_driver}
 use Rattle.nand_runs.proofs.Places.{parts, Valid}
 use Rattle.nand_runs.proofs.Keeps.{Built, stays-next}

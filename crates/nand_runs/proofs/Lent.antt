@@ -25,16 +25,16 @@ use Rattle.spi_nand.specs.Opcode.{REG-STATUS, timings_of}
 use Rattle.spi_nand.specs.Status.{busy_value, verdict_of}
 use Rattle.spi_nand.specs.declared.opcode.Operation.{Operation}
 use Rattle.spi_nand.proofs.Geometries.{geometries-hold}
-use Rattle.nand_phases.specs.Transfer.{cache_read_at, cache_read_transfer, in_cache, in_range, place_of, page_at, column_at, chunk_of}
-use Rattle.nand_phases.proofs.Pieces.{chunk-within}
-use Rattle.nand_phases.specs.declared.call.Call.{Call}
-use Rattle.nand_phases.specs.declared.setup.Setup.{Setup}
-use Rattle.nand_rust.specs.Rust.{uncorrectable, read-status, wait-ready, load-page, page-read, read-cache, read-page, reading, read}
-use Rattle.nand_rust.specs.Observer.{reads_cache}
-use Rattle.nand_rust.specs.Program.{Left, rust_program, program_of}
-use Rattle.nand_rust.proofs.ReadLoop.{chunk-some, reading-loop}
-use Rattle.nand_rust.specs.Bound.{weight_of}
-use Rattle.nand_rust.proofs.Weights.{bounded-with-config, weighed-construction, weighed}
+use Rattle.spi_nand.specs.Transfer.{cache_read_at, cache_read_transfer, in_cache, in_range, place_of, page_at, column_at, chunk_of}
+use Rattle.spi_nand.proofs.Pieces.{chunk-within}
+use Rattle.spi_nand.specs.declared.call.Call.{Call}
+use Rattle.spi_nand.specs.declared.setup.Setup.{Setup}
+use Rattle.nand_runs.specs.Rust.{uncorrectable, read-status, wait-ready, load-page, page-read, read-cache, read-page, reading, read}
+use Rattle.nand_runs.specs.Observer.{reads_cache}
+use Rattle.nand_runs.specs.Program.{Left, rust_program, program_of}
+use Rattle.nand_runs.proofs.ReadLoop.{chunk-some, reading-loop}
+use Rattle.nand_runs.specs.Bound.{weight_of}
+use Rattle.nand_runs.proofs.Weights.{bounded-with-config, weighed-construction, weighed}
 use Rattle.nand_runs.specs.Run.{sort_of, nand_driver}
 use Rattle.nand_runs.proofs.Meaning.{DONE}
 

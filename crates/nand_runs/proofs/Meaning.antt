@@ -19,27 +19,27 @@ use Rattle.spi_nand.specs.declared.opcode.Operation.{Operation}
 use Rattle.spi_nand.specs.declared.status.Configuration.{Configuration}
 use Rattle.spi_nand.specs.declared.status.Protection.{Protection}
 use Rattle.spi_nand.specs.declared.status.Status.{Status}
-use Rattle.nand_answers.specs.declared.answer.Answer.{Answer}
-use Rattle.nand_phases.specs.Setup.{identified_as, with_before, with_protection, with_after}
-use Rattle.nand_phases.specs.Transfer.{place_of, column_at, chunk_of, filler_of, task_operation}
-use Rattle.nand_phases.specs.declared.phase.Asked.{Asked}
-use Rattle.nand_phases.specs.declared.phase.EnableFor.{EnableFor}
-use Rattle.nand_phases.specs.declared.phase.EraseFor.{EraseFor}
-use Rattle.nand_phases.specs.declared.phase.LoadFor.{LoadFor}
-use Rattle.nand_phases.specs.declared.phase.MarkerFor.{MarkerFor}
-use Rattle.nand_phases.specs.declared.phase.EnableStep.{EnableStep}
-use Rattle.nand_phases.specs.declared.phase.Phase.{Phase}
-use Rattle.nand_phases.specs.declared.phase.WaitStep.{WaitStep}
-use Rattle.nand_phases.specs.declared.phase.ProgramFor.{ProgramFor}
-use Rattle.nand_phases.specs.declared.phase.RegisterFor.{RegisterFor}
-use Rattle.nand_phases.specs.declared.phase.ResetFor.{ResetFor}
-use Rattle.nand_phases.specs.declared.phase.Task.{Task}
-use Rattle.nand_phases.specs.declared.setup.Setup.{Setup}
+use Rattle.spi_nand.specs.declared.answer.Answer.{Answer}
+use Rattle.spi_nand.specs.Setup.{identified_as, with_before, with_protection, with_after}
+use Rattle.spi_nand.specs.Transfer.{place_of, column_at, chunk_of, filler_of, task_operation}
+use Rattle.spi_nand.specs.declared.phase.Asked.{Asked}
+use Rattle.spi_nand.specs.declared.phase.EnableFor.{EnableFor}
+use Rattle.spi_nand.specs.declared.phase.EraseFor.{EraseFor}
+use Rattle.spi_nand.specs.declared.phase.LoadFor.{LoadFor}
+use Rattle.spi_nand.specs.declared.phase.MarkerFor.{MarkerFor}
+use Rattle.spi_nand.specs.declared.phase.EnableStep.{EnableStep}
+use Rattle.spi_nand.specs.declared.phase.Phase.{Phase}
+use Rattle.spi_nand.specs.declared.phase.WaitStep.{WaitStep}
+use Rattle.spi_nand.specs.declared.phase.ProgramFor.{ProgramFor}
+use Rattle.spi_nand.specs.declared.phase.RegisterFor.{RegisterFor}
+use Rattle.spi_nand.specs.declared.phase.ResetFor.{ResetFor}
+use Rattle.spi_nand.specs.declared.phase.Task.{Task}
+use Rattle.spi_nand.specs.declared.setup.Setup.{Setup}
 use Rattle.nand_steps.specs.Register.{geometry_for}
-use Rattle.nand_rust.specs.Rust.{Nothing, MAX-VERIFY-PAGE-SIZE, id-of, wanted-of, uncorrectable, read-status, read-configuration, read-protection, wait-ready, write-enable, write-register, reset, jedec-id, read-cache, load-program-data, program-execute, read-page, erase-block, reading, is-bad-block, filling}
+use Rattle.nand_runs.specs.Rust.{Nothing, MAX-VERIFY-PAGE-SIZE, id-of, wanted-of, uncorrectable, read-status, read-configuration, read-protection, wait-ready, write-enable, write-register, reset, jedec-id, read-cache, load-program-data, program-execute, read-page, erase-block, reading, is-bad-block, filling}
 use Rattle.flash_runs.proofs.Looking.{looked}
 use Rattle.flash_runs.specs.Driver.{leaving}
-use Rattle.nand_rust.specs.Program.{Left}
+use Rattle.nand_runs.specs.Program.{Left}
 use Rattle.nand_runs.proofs.Places.{NandPlace}
 
 abbrev pub DONE : Setup → Prog Left

@@ -19,26 +19,26 @@ use Rattle.spi_nand.specs.Opcode.{REG-STATUS, REG-CONFIGURATION, REG-BLOCK-PROTE
 use Rattle.spi_nand.specs.Status.{configuration_of, configuration_byte, same_configuration, protection_of, is_unlocked}
 use Rattle.spi_nand.specs.declared.status.Configuration.{Configuration}
 use Rattle.spi_nand.specs.declared.status.Protection.{Protection}
-use Rattle.nand_answers.specs.declared.answer.Answer.{Answer}
-use Rattle.nand_phases.specs.Transfer.{register_transfer, in_range, task_operation}
-use Rattle.nand_phases.specs.declared.phase.Asked.{Asked}
-use Rattle.nand_phases.specs.declared.phase.EnableFor.{EnableFor}
-use Rattle.nand_phases.specs.declared.phase.EraseFor.{EraseFor}
-use Rattle.nand_phases.specs.declared.phase.LoadFor.{LoadFor}
-use Rattle.nand_phases.specs.declared.phase.MarkerFor.{MarkerFor}
-use Rattle.nand_phases.specs.declared.phase.Phase.{Phase}
-use Rattle.nand_phases.specs.declared.phase.ProgramFor.{ProgramFor}
-use Rattle.nand_phases.specs.declared.phase.RegisterFor.{RegisterFor}
-use Rattle.nand_phases.specs.declared.phase.ResetFor.{ResetFor}
-use Rattle.nand_phases.specs.declared.phase.Task.{Task}
-use Rattle.nand_phases.specs.declared.setup.Setup.{Setup}
+use Rattle.spi_nand.specs.declared.answer.Answer.{Answer}
+use Rattle.spi_nand.specs.Transfer.{register_transfer, in_range, task_operation}
+use Rattle.spi_nand.specs.declared.phase.Asked.{Asked}
+use Rattle.spi_nand.specs.declared.phase.EnableFor.{EnableFor}
+use Rattle.spi_nand.specs.declared.phase.EraseFor.{EraseFor}
+use Rattle.spi_nand.specs.declared.phase.LoadFor.{LoadFor}
+use Rattle.spi_nand.specs.declared.phase.MarkerFor.{MarkerFor}
+use Rattle.spi_nand.specs.declared.phase.Phase.{Phase}
+use Rattle.spi_nand.specs.declared.phase.ProgramFor.{ProgramFor}
+use Rattle.spi_nand.specs.declared.phase.RegisterFor.{RegisterFor}
+use Rattle.spi_nand.specs.declared.phase.ResetFor.{ResetFor}
+use Rattle.spi_nand.specs.declared.phase.Task.{Task}
+use Rattle.spi_nand.specs.declared.setup.Setup.{Setup}
 use Rattle.nand_steps.specs.Go.{ask as ask_then, ask_id, send, enable}
-use Rattle.nand_pages.specs.Cache.{read_cache_then, load_program_then}
-use Rattle.nand_pages.specs.Page.{page_read_then, is_bad_then, program_then, read_page_then, write_page_then}
-use Rattle.nand_ranges.specs.Read.{read_then}
-use Rattle.nand_ranges.specs.Block.{erase_then}
-use Rattle.nand_rust.specs.Rust.{Nothing, wanted-of, read-status, read-configuration, read-protection, write-enable, write-register, disable-quad, reset, jedec-id, reset-and-identify, ensure-configuration, unprotect, page-read, read-cache, load-program-data, program-execute, read-page, write-page, erase-block, read, is-bad-block, filling, mark-bad-block}
-use Rattle.nand_rust.specs.Program.{Left}
+use Rattle.nand_steps.specs.Cache.{read_cache_then, load_program_then}
+use Rattle.nand_steps.specs.Page.{page_read_then, is_bad_then, program_then, read_page_then, write_page_then}
+use Rattle.nand_steps.specs.Read.{read_then}
+use Rattle.nand_steps.specs.Block.{erase_then}
+use Rattle.nand_runs.specs.Rust.{Nothing, wanted-of, read-status, read-configuration, read-protection, write-enable, write-register, disable-quad, reset, jedec-id, reset-and-identify, ensure-configuration, unprotect, page-read, read-cache, load-program-data, program-execute, read-page, write-page, erase-block, read, is-bad-block, filling, mark-bad-block}
+use Rattle.nand_runs.specs.Program.{Left}
 use Rattle.nand_runs.proofs.Places.{decide}
 use Rattle.nand_runs.proofs.Meaning.{DONE, compared, confirmed, confirm, program-on, marker-on, fill_on, mark_on, marker-read, verify-on, program-page, read-on, accepted, loaded, after-program, after-erase, written, identify, reset-done, resumed, enabled, configured, check-configured, configure-on, unprotected, unprotect-on, check-disabled, disable-on, answered, meaning_at, meaning}
 use Rattle.nand_runs.proofs.Simulation.{reads-cache, loads-cache, sends, enables, registers, page-reads, looks-bad, programs, erases, reads_on}

@@ -16,27 +16,27 @@ use Rattle.flash_runs.proofs.Supplies.{Stays, Selects, SelectsFirst, Use, OpensA
 use Rattle.spi_nand.specs.Command.{reset_command}
 use Rattle.spi_nand.specs.Config.{in_bounds, page_count_of, single_config}
 use Rattle.spi_nand.specs.Opcode.{REG-STATUS, REG-CONFIGURATION, REG-BLOCK-PROTECTION}
-use Rattle.nand_phases.specs.Transfer.{in_cache, in_range, place_of, page_at, cache_read_at, cache_read_transfer, cache_load_at, cache_load_transfer}
-use Rattle.nand_phases.specs.declared.call.Call.{Call}
-use Rattle.nand_phases.specs.declared.phase.Asked.{Asked}
-use Rattle.nand_phases.specs.declared.phase.EnableFor.{EnableFor}
-use Rattle.nand_phases.specs.declared.phase.EraseFor.{EraseFor}
-use Rattle.nand_phases.specs.declared.phase.LoadFor.{LoadFor}
-use Rattle.nand_phases.specs.declared.phase.MarkerFor.{MarkerFor}
-use Rattle.nand_phases.specs.declared.phase.Phase.{Phase}
-use Rattle.nand_phases.specs.declared.phase.ProgramFor.{ProgramFor}
-use Rattle.nand_phases.specs.declared.phase.RegisterFor.{RegisterFor}
-use Rattle.nand_phases.specs.declared.phase.ResetFor.{ResetFor}
-use Rattle.nand_phases.specs.declared.phase.Task.{Task}
-use Rattle.nand_phases.specs.declared.setup.Setup.{Setup}
+use Rattle.spi_nand.specs.Transfer.{in_cache, in_range, place_of, page_at, cache_read_at, cache_read_transfer, cache_load_at, cache_load_transfer}
+use Rattle.spi_nand.specs.declared.call.Call.{Call}
+use Rattle.spi_nand.specs.declared.phase.Asked.{Asked}
+use Rattle.spi_nand.specs.declared.phase.EnableFor.{EnableFor}
+use Rattle.spi_nand.specs.declared.phase.EraseFor.{EraseFor}
+use Rattle.spi_nand.specs.declared.phase.LoadFor.{LoadFor}
+use Rattle.spi_nand.specs.declared.phase.MarkerFor.{MarkerFor}
+use Rattle.spi_nand.specs.declared.phase.Phase.{Phase}
+use Rattle.spi_nand.specs.declared.phase.ProgramFor.{ProgramFor}
+use Rattle.spi_nand.specs.declared.phase.RegisterFor.{RegisterFor}
+use Rattle.spi_nand.specs.declared.phase.ResetFor.{ResetFor}
+use Rattle.spi_nand.specs.declared.phase.Task.{Task}
+use Rattle.spi_nand.specs.declared.setup.Setup.{Setup}
 use Rattle.nand_steps.specs.Go.{ask as ask_then, ask_id, send, enable}
-use Rattle.nand_pages.specs.Cache.{read_cache_then, load_program_then, payload_length}
-use Rattle.nand_pages.specs.Page.{page_read_then, is_bad_then, program_then, read_page_then, write_page_then}
-use Rattle.nand_ranges.specs.Read.{read_from, read_then}
-use Rattle.nand_ranges.specs.Block.{erase_then}
+use Rattle.nand_steps.specs.Cache.{read_cache_then, load_program_then, payload_length}
+use Rattle.nand_steps.specs.Page.{page_read_then, is_bad_then, program_then, read_page_then, write_page_then}
+use Rattle.nand_steps.specs.Read.{read_from, read_then}
+use Rattle.nand_steps.specs.Block.{erase_then}
 use Rattle.nand_steps.specs.Then.{Then}
-use Rattle.nand_opening.specs.Opening.{opening_of}
-use Rattle.nand_rust.specs.Program.{program_of, rust_program}
+use Rattle.nand_steps.specs.Opening.{opening_of}
+use Rattle.nand_runs.specs.Program.{program_of, rust_program}
 use Rattle.nand_runs.specs.Run.{sort_of, nand_driver}
 use Rattle.machine.specs.Shape.{opening_as}
 use Rattle.nand_driver.specs.Settle.{then_as}

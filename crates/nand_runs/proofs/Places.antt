@@ -5,15 +5,15 @@ use Rattle.spi_flash.specs.Machine.{Decision}
 use Rattle.flash_runs.proofs.General as General
 use Rattle.flash_runs.proofs.General.{Place, Parts, parts_of}
 use Rattle.spi_nand.specs.Config.{in_bounds}
-use Rattle.nand_answers.specs.declared.answer.Answer.{Answer}
-use Rattle.nand_phases.specs.declared.call.Call.{Call}
-use Rattle.nand_phases.specs.declared.phase.Phase.{Phase}
-use Rattle.nand_phases.specs.declared.setup.Setup.{Setup}
+use Rattle.spi_nand.specs.declared.answer.Answer.{Answer}
+use Rattle.spi_nand.specs.declared.call.Call.{Call}
+use Rattle.spi_nand.specs.declared.phase.Phase.{Phase}
+use Rattle.spi_nand.specs.declared.setup.Setup.{Setup}
 use Rattle.nand_steps.specs.Then.{Then}
 use Rattle.nand_driver.specs.Call.{nand_calls}
 use Rattle.nand_driver.specs.Settle.{then_as}
 use Rattle.nand_driver.specs.Step.{nand_next}
-use Rattle.nand_rust.specs.Program.{Left}
+use Rattle.nand_runs.specs.Program.{Left}
 
 abbrev pub parts : Parts Setup Phase Answer Call
 parts = parts_of nand_calls nand_next

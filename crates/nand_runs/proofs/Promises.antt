@@ -27,17 +27,17 @@ use Rattle.spi_nand.specs.declared.config.NandGeometry.{NandGeometry}
 use Rattle.spi_nand.specs.declared.config.NandInit.{NandInit}
 use Rattle.spi_nand.specs.declared.config.NandJedecId.{NandJedecId}
 use Rattle.spi_nand.specs.declared.config.SpiNandConfig.{SpiNandConfig}
-use Rattle.nand_answers.specs.declared.answer.Answer.{Answer}
-use Rattle.nand_phases.specs.declared.call.Call.{Call}
-use Rattle.nand_phases.specs.declared.setup.Setup.{Setup}
+use Rattle.spi_nand.specs.declared.answer.Answer.{Answer}
+use Rattle.spi_nand.specs.declared.call.Call.{Call}
+use Rattle.spi_nand.specs.declared.setup.Setup.{Setup}
 use Rattle.nand_driver.specs.Settle.{SpiNandFlash}
-use Rattle.nand_rust.specs.Bound.{delay_bound}
-use Rattle.nand_rust.specs.Program.{Left, rust_program, large_page, refused-page}
-use Rattle.nand_rust.specs.ReadSeen.{touched, ReadSeen}
-use Rattle.nand_phases.specs.Setup.{init_of}
-use Rattle.nand_rust.specs.Rust.{MAX-VERIFY-PAGE-SIZE, read-configuration, reset-and-identify, ensure-configuration, unprotect, bring-up, constructed, with-config}
-use Rattle.nand_rust.proofs.ProgramBounds.{program-bounds}
-use Rattle.nand_rust.proofs.SeenRuns.{read-seen}
+use Rattle.nand_runs.specs.Bound.{delay_bound}
+use Rattle.nand_runs.specs.Program.{Left, rust_program, large_page, refused-page}
+use Rattle.nand_runs.specs.ReadSeen.{touched, ReadSeen}
+use Rattle.spi_nand.specs.Setup.{init_of}
+use Rattle.nand_runs.specs.Rust.{MAX-VERIFY-PAGE-SIZE, read-configuration, reset-and-identify, ensure-configuration, unprotect, bring-up, constructed, with-config}
+use Rattle.nand_runs.proofs.ProgramBounds.{program-bounds}
+use Rattle.nand_runs.proofs.SeenRuns.{read-seen}
 use Rattle.nand_runs.specs.Promises.{done_by, identification, BeginsIdentifying, AsRust, NandDemand3, NandPromises}
 use Rattle.nand_runs.specs.Run.{sort_of, nand_driver}
 use Rattle.nand_runs.proofs.Places.{parts, Valid}

@@ -34,34 +34,34 @@ use Rattle.spi_nand.specs.declared.status.Protection.{Protection}
 use Rattle.spi_nand.specs.declared.status.Status.{Status}
 use Rattle.spi_nand.proofs.Geometries.{geometries-hold}
 use Rattle.spi_nand.proofs.WaitTable.{wait-table}
-use Rattle.nand_phases.specs.Transfer.{register_transfer, cache_load_transfer, in_cache, page_at, place_of, column_at, chunk_of, filler_of, task_operation}
-use Rattle.nand_phases.specs.declared.phase.Asked.{Asked}
-use Rattle.nand_phases.specs.declared.phase.EnableFor.{EnableFor}
-use Rattle.nand_phases.specs.declared.phase.EraseFor.{EraseFor}
-use Rattle.nand_phases.specs.declared.phase.LoadFor.{LoadFor}
-use Rattle.nand_phases.specs.declared.phase.MarkerFor.{MarkerFor}
-use Rattle.nand_phases.specs.declared.phase.EnableStep.{EnableStep}
-use Rattle.nand_phases.specs.declared.phase.Phase.{Phase}
-use Rattle.nand_phases.specs.declared.phase.WaitStep.{WaitStep}
-use Rattle.nand_phases.specs.declared.phase.ProgramFor.{ProgramFor}
-use Rattle.nand_phases.specs.declared.phase.RegisterFor.{RegisterFor}
-use Rattle.nand_phases.specs.declared.phase.ResetFor.{ResetFor}
-use Rattle.nand_phases.specs.declared.phase.Task.{Task}
-use Rattle.nand_phases.specs.declared.setup.Setup.{Setup}
+use Rattle.spi_nand.specs.Transfer.{register_transfer, cache_load_transfer, in_cache, page_at, place_of, column_at, chunk_of, filler_of, task_operation}
+use Rattle.spi_nand.specs.declared.phase.Asked.{Asked}
+use Rattle.spi_nand.specs.declared.phase.EnableFor.{EnableFor}
+use Rattle.spi_nand.specs.declared.phase.EraseFor.{EraseFor}
+use Rattle.spi_nand.specs.declared.phase.LoadFor.{LoadFor}
+use Rattle.spi_nand.specs.declared.phase.MarkerFor.{MarkerFor}
+use Rattle.spi_nand.specs.declared.phase.EnableStep.{EnableStep}
+use Rattle.spi_nand.specs.declared.phase.Phase.{Phase}
+use Rattle.spi_nand.specs.declared.phase.WaitStep.{WaitStep}
+use Rattle.spi_nand.specs.declared.phase.ProgramFor.{ProgramFor}
+use Rattle.spi_nand.specs.declared.phase.RegisterFor.{RegisterFor}
+use Rattle.spi_nand.specs.declared.phase.ResetFor.{ResetFor}
+use Rattle.spi_nand.specs.declared.phase.Task.{Task}
+use Rattle.spi_nand.specs.declared.setup.Setup.{Setup}
 use Rattle.nand_steps.specs.Register.{id_of, geometry_for, wanted_for, with_quad, identified_then, configured_then, configure_then, check_configuration, unprotected_then, unprotect_then, disable_quad, quad_disabled, written_then}
 use Rattle.nand_steps.specs.Go.{go_to, send, enable}
-use Rattle.nand_pages.specs.Cache.{within, read_cache_then, piece_then, compared_then, load_program_then}
-use Rattle.nand_pages.specs.Page.{load_then, page_read_then, is_bad_then, accepted_then, loaded_then, judged_then, program_then, after_program, programmed_then}
-use Rattle.nand_ranges.specs.Read.{read_from}
-use Rattle.nand_ranges.specs.Block.{erase_then, after_erase, erased_then, marker_then, fill_from}
+use Rattle.nand_steps.specs.Cache.{within, read_cache_then, piece_then, compared_then, load_program_then}
+use Rattle.nand_steps.specs.Page.{load_then, page_read_then, is_bad_then, accepted_then, loaded_then, judged_then, program_then, after_program, programmed_then}
+use Rattle.nand_steps.specs.Read.{read_from}
+use Rattle.nand_steps.specs.Block.{erase_then, after_erase, erased_then, marker_then, fill_from}
 use Rattle.nand_steps.specs.Then.{Then}
 use Rattle.nand_next.specs.Wait.{reset_then, resume_task, judge_task, wait_then, waiting_then}
 use Rattle.nand_next.specs.Next.{enabled_then, latched_then, enabling_then, identify_then, answered_then, after_phase, next_of}
 use Rattle.spi_nand.specs.declared.config.NandJedecId.{NandJedecId}
-use Rattle.nand_rust.specs.Rust.{Nothing, MAX-VERIFY-PAGE-SIZE, quad-wanted, wanted-of, uncorrectable, read-status, read-configuration, read-protection, wait-ready, write-enable, write-register, reset, jedec-id, load-page, page-read, read-cache, load-program-data, program-execute, read-page, erase-block, reading, is-bad-block, filling}
-use Rattle.nand_rust.specs.Program.{Left}
-use Rattle.nand_rust.proofs.ReadLoop.{reading-loop}
-use Rattle.nand_rust.proofs.FillLoop.{filling-loop}
+use Rattle.nand_runs.specs.Rust.{Nothing, MAX-VERIFY-PAGE-SIZE, quad-wanted, wanted-of, uncorrectable, read-status, read-configuration, read-protection, wait-ready, write-enable, write-register, reset, jedec-id, load-page, page-read, read-cache, load-program-data, program-execute, read-page, erase-block, reading, is-bad-block, filling}
+use Rattle.nand_runs.specs.Program.{Left}
+use Rattle.nand_runs.proofs.ReadLoop.{reading-loop}
+use Rattle.nand_runs.proofs.FillLoop.{filling-loop}
 use Rattle.flash_runs.proofs.General.{place, decide_next}
 use Rattle.flash_runs.proofs.Looking.{looked, no_wrap}
 use Rattle.nand_runs.proofs.Places.{parts, decide, Valid}

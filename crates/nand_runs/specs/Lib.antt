@@ -1,2 +1,9 @@
 pub mod Run
 pub mod Promises
+pub mod Rust
+pub mod Program
+pub mod Bound
+pub mod ProgramBounds
+pub mod Observer
+pub mod ReadSeen
+pub mod Shams

@@ -15,12 +15,12 @@ use Rattle.flash_runs.specs.Reading.{ChangesRead, HoldsRead}
 use Rattle.flash_runs.specs.SameAsRust.{Regular}
 use Rattle.spi_nand.specs.declared.config.NandJedecId.{NandJedecId}
 use Rattle.spi_nand.specs.declared.config.SpiNandConfig.{SpiNandConfig}
-use Rattle.nand_phases.specs.declared.call.Call.{Call}
+use Rattle.spi_nand.specs.declared.call.Call.{Call}
 use Rattle.nand_driver.specs.Settle.{SpiNandFlash}
-use Rattle.nand_rust.specs.Observer.{reads_cache}
-use Rattle.nand_rust.specs.Program.{Left, rust_program, large_page}
-use Rattle.nand_rust.specs.ReadSeen.{ReadSeen}
-use Rattle.nand_rust.specs.Rust.{reset-and-identify}
+use Rattle.nand_runs.specs.Observer.{reads_cache}
+use Rattle.nand_runs.specs.Program.{Left, rust_program, large_page}
+use Rattle.nand_runs.specs.ReadSeen.{ReadSeen}
+use Rattle.nand_runs.specs.Rust.{reset-and-identify}
 use Rattle.nand_runs.specs.Run.{nand_driver}
 
 -- ---- demand 2

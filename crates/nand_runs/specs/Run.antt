@@ -5,18 +5,18 @@ use Rattle.spi_flash.specs.declared.loan.Takes.{Takes}
 use Rattle.flash_runs.specs.Driver.{Sort, constructs, tells, releases, uses, Driver}
 use Rattle.flash_runs.specs.System.{system_of}
 use Rattle.spi_nand.specs.Config.{single_config}
-use Rattle.nand_answers.specs.Answer.{answer_values}
-use Rattle.nand_answers.specs.declared.answer.Answer.{Answer}
-use Rattle.nand_phases.specs.declared.call.Call.{Call}
-use Rattle.nand_phases.specs.declared.setup.Setup.{Setup}
+use Rattle.spi_nand.specs.Answer.{answer_values}
+use Rattle.spi_nand.specs.declared.answer.Answer.{Answer}
+use Rattle.spi_nand.specs.declared.call.Call.{Call}
+use Rattle.spi_nand.specs.declared.setup.Setup.{Setup}
 use Rattle.nand_driver.specs.Call.{fresh_setup, nand_calls, begin_of}
 use Rattle.nand_driver.specs.Settle.{nand_shape}
 use Rattle.nand_driver.specs.Step.{step_of, delivered_part}
 use Rattle.nand_driver.specs.Settle.{SpiNandFlash}
-use Rattle.nand_rust.specs.Bound.{delay_bound, action_bound}
-use Rattle.nand_rust.specs.Observer.{reads_cache}
-use Rattle.nand_rust.specs.Program.{Left, program_of}
-use Rattle.nand_rust.specs.ProgramBounds.{can_end}
+use Rattle.nand_runs.specs.Bound.{delay_bound, action_bound}
+use Rattle.nand_runs.specs.Observer.{reads_cache}
+use Rattle.nand_runs.specs.Program.{Left, program_of}
+use Rattle.nand_runs.specs.ProgramBounds.{can_end}
 
 -- the driver as it is stepped: `begin` and `step`
 abbrev pub nand : System SpiNandFlash Call Left

@@ -6,16 +6,16 @@ use Rattle.qspi.specs.declared.transfer.Body.{Body}
 use Rattle.qspi.specs.declared.transfer.Transfer.{Transfer}
 use Rattle.spi_nand.specs.Command.{reset_command, write_enable_command}
 use Rattle.spi_nand.specs.Opcode.{REG-STATUS}
-use Rattle.nand_answers.specs.declared.answer.Answer.{Answer}
-use Rattle.nand_phases.specs.Transfer.{register_transfer, id_transfer}
-use Rattle.nand_phases.specs.declared.phase.Asked.{Asked}
-use Rattle.nand_phases.specs.declared.phase.EnableFor.{EnableFor}
-use Rattle.nand_phases.specs.declared.phase.EnableStep.{EnableStep}
-use Rattle.nand_phases.specs.declared.phase.Phase.{Phase}
-use Rattle.nand_phases.specs.declared.phase.ResetFor.{ResetFor}
-use Rattle.nand_phases.specs.declared.phase.Task.{Task}
-use Rattle.nand_phases.specs.declared.phase.WaitStep.{WaitStep}
-use Rattle.nand_phases.specs.declared.setup.Setup.{Setup}
+use Rattle.spi_nand.specs.declared.answer.Answer.{Answer}
+use Rattle.spi_nand.specs.Transfer.{register_transfer, id_transfer}
+use Rattle.spi_nand.specs.declared.phase.Asked.{Asked}
+use Rattle.spi_nand.specs.declared.phase.EnableFor.{EnableFor}
+use Rattle.spi_nand.specs.declared.phase.EnableStep.{EnableStep}
+use Rattle.spi_nand.specs.declared.phase.Phase.{Phase}
+use Rattle.spi_nand.specs.declared.phase.ResetFor.{ResetFor}
+use Rattle.spi_nand.specs.declared.phase.Task.{Task}
+use Rattle.spi_nand.specs.declared.phase.WaitStep.{WaitStep}
+use Rattle.spi_nand.specs.declared.setup.Setup.{Setup}
 use Rattle.nand_steps.specs.Then.{Then}
 pub use Rattle.machine.specs.Then.{go_to, end_with}
 

@@ -1,9 +1,9 @@
 -- What follows a transfer, and what a call is (specs/Then.antt of machine).
 use Rattle.machine.specs.Then as Machine
 use Rattle.machine.specs.declared.then.Opening as Declared
-use Rattle.nand_answers.specs.declared.answer.Answer.{Answer}
-use Rattle.nand_phases.specs.declared.phase.Phase.{Phase}
-use Rattle.nand_phases.specs.declared.setup.Setup.{Setup}
+use Rattle.spi_nand.specs.declared.answer.Answer.{Answer}
+use Rattle.spi_nand.specs.declared.phase.Phase.{Phase}
+use Rattle.spi_nand.specs.declared.setup.Setup.{Setup}
 
 abbrev pub Then : Type 0
 Then = Machine.Then Setup Phase Answer

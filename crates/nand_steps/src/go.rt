@@ -4,13 +4,12 @@ ghost use Rattle.nand_steps.specs.Go.{done, ask, ask_id, look, verdict, send, re
 
 use crate::then::Then;
 pub use machine::then::{end, go};
-use nand_answers::answer::Answer;
-use nand_phases::phase::{Asked, EnableFor, EnableStep, Phase, ResetFor, Task, WaitStep};
-use nand_phases::setup::Setup;
-use nand_phases::transfer;
 use qspi::command::Command;
 use qspi::transfer::Transfer;
-use spi_nand::{command, opcode};
+use spi_nand::answer::Answer;
+use spi_nand::phase::{Asked, EnableFor, EnableStep, Phase, ResetFor, Task, WaitStep};
+use spi_nand::setup::Setup;
+use spi_nand::{command, opcode, transfer};
 
 // `Ok(())`
 pub fn done(setup: Setup) -> Then

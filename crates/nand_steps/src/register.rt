@@ -5,12 +5,12 @@ ghost use Rattle.nand_steps.specs.Register.{id_of, geometry_for, identified_then
 
 use crate::go;
 use crate::then::Then;
-use nand_answers::answer::Answer;
-use nand_phases::phase::{Asked, EnableFor, RegisterFor};
-use nand_phases::setup::Setup;
 use spi_flash::error::FlashError;
+use spi_nand::answer::Answer;
 use spi_nand::config::{NandGeometry, NandJedecId, SpiNandConfig};
 use spi_nand::opcode;
+use spi_nand::phase::{Asked, EnableFor, RegisterFor};
+use spi_nand::setup::Setup;
 use spi_nand::status::{Configuration, Protection};
 
 // The largest page that a read-back is made of.

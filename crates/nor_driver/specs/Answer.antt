@@ -1,7 +1,7 @@
 -- How a step of the SPI NOR driver has ended its call (specs/Ending.antt of spi_flash).
 use Rattle.std.specs.Prelude.{ℕ}
 use Rattle.spi_flash.specs.Ending.{Ending, ending_in, number_in}
-use Rattle.nor_answers.specs.Answer.{answer_values}
+use Rattle.spi_nor.specs.Answer.{answer_values}
 use Rattle.nor_driver.specs.Settle.{Given, given_as}
 
 abbrev pub ending_of : Given → Ending

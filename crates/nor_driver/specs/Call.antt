@@ -2,12 +2,12 @@
 use Rattle.std.specs.Prelude.{ℕ, false, None}
 use Rattle.spi_flash.specs.Beginning.{Calls, begins}
 use Rattle.spi_nor.specs.Config.{in_bounds_of, single_config}
-use Rattle.nor_answers.specs.declared.answer.Answer.{Answer}
-use Rattle.nor_phases.specs.declared.call.Call.{Call}
-use Rattle.nor_phases.specs.declared.phase.Phase.{Phase}
-use Rattle.nor_phases.specs.declared.setup.Setup.{Setup}
-use Rattle.nor_opening.specs.Opening.{opening_of}
-pub use Rattle.nor_opening.specs.Opening.{given_at, given_device, fresh_setup}
+use Rattle.spi_nor.specs.declared.answer.Answer.{Answer}
+use Rattle.spi_nor.specs.declared.call.Call.{Call}
+use Rattle.spi_nor.specs.declared.phase.Phase.{Phase}
+use Rattle.spi_nor.specs.declared.setup.Setup.{Setup}
+use Rattle.nor_steps.specs.Opening.{opening_of}
+pub use Rattle.nor_steps.specs.Opening.{given_at, given_device, fresh_setup}
 use Rattle.machine.specs.Shape.{opening_as}
 use Rattle.nor_driver.specs.Settle.{SpiNorFlash, Stepped, flash_of, nor_shape}
 

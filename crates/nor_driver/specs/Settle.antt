@@ -5,9 +5,9 @@ pub use Rattle.machine.specs.Shape.{then_as, running_as, given_as, flash_of, ref
 use Rattle.machine.specs.declared.state.Flash as Machine
 use Rattle.machine.specs.declared.state.Given as Gives
 use Rattle.machine.specs.declared.state.Stepped as Steps
-use Rattle.nor_answers.specs.declared.answer.Answer.{Answer}
-use Rattle.nor_phases.specs.declared.phase.Phase.{Phase}
-use Rattle.nor_phases.specs.declared.setup.Setup.{Setup}
+use Rattle.spi_nor.specs.declared.answer.Answer.{Answer}
+use Rattle.spi_nor.specs.declared.phase.Phase.{Phase}
+use Rattle.spi_nor.specs.declared.setup.Setup.{Setup}
 
 abbrev pub SpiNorFlash : Type 0
 SpiNorFlash = Machine.Flash Setup Phase

@@ -4,9 +4,9 @@ ghost use Rattle.std.specs.Prelude.{◌≡◌, length};
 ghost use Rattle.nor_driver.specs.Call.{begin_of};
 
 use crate::part::{Nor, SpiNorFlash, Stepped};
-use frames::loan::Lengths;
 use machine::call::begin;
-use nor_phases::call::Call;
+use qspi::loan::Lengths;
+use spi_nor::call::Call;
 use spi_nor::config::SpiNorConfig;
 
 pub fn new(flash: SpiNorFlash, scratch: &[u8]) -> Stepped

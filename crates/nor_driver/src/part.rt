@@ -3,18 +3,18 @@ ghost use Rattle.std.specs.Prelude.{◌≡◌};
 ghost use Rattle.nor_driver.specs.Call.{nor_calls, not_built};
 ghost use Rattle.nor_driver.specs.Step.{nor_next};
 
-use frames::frame::Outcome;
-use frames::loan::Lengths;
 use machine::part::Part;
 use machine::state;
-use nor_answers::answer::Answer;
 use nor_next::next;
-use nor_opening::opening;
-use nor_phases::call::Call;
-use nor_phases::phase::Phase;
-use nor_phases::setup::Setup;
+use nor_steps::opening;
 use nor_steps::then::{Opening, Then};
+use qspi::frame::Outcome;
+use qspi::loan::Lengths;
+use spi_nor::answer::Answer;
+use spi_nor::call::Call;
 use spi_nor::config::SpiNorConfig;
+use spi_nor::phase::Phase;
+use spi_nor::setup::Setup;
 
 pub type SpiNorFlash = state::Flash<Setup, Phase>;
 

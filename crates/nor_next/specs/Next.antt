@@ -1,20 +1,20 @@
 -- What follows each transfer of a call: nor/driver.rs, cut where it uses the bus.
 use Rattle.std.specs.Prelude.{ℕ, ◌+◌, not, Ok, Err}
 use Rattle.qspi.specs.Bytes.{byte_of}
-use Rattle.frames.specs.Frame.{Outcome}
+use Rattle.qspi.specs.Frame.{Outcome}
 use Rattle.spi_flash.specs.declared.error.FlashError.{FlashError}
 use Rattle.spi_nor.specs.Status.{busy_of, quad_enabled1_of, quad_enabled2_of}
-use Rattle.nor_phases.specs.Transfer.{chunk_of}
-use Rattle.nor_phases.specs.declared.phase.Phase.{Phase}
-use Rattle.nor_phases.specs.declared.phase.Task.{Task}
-use Rattle.nor_answers.specs.declared.answer.Answer.{Answer}
-use Rattle.nor_phases.specs.declared.setup.Setup.{Setup}
+use Rattle.spi_nor.specs.Transfer.{chunk_of}
+use Rattle.spi_nor.specs.declared.phase.Phase.{Phase}
+use Rattle.spi_nor.specs.declared.phase.Task.{Task}
+use Rattle.spi_nor.specs.declared.answer.Answer.{Answer}
+use Rattle.spi_nor.specs.declared.setup.Setup.{Setup}
 use Rattle.nor_steps.specs.Then.{Then}
 use Rattle.nor_steps.specs.Go.{end_with, read1_then, read2_then, read_id_then, enabled_then, done_if, supported_if}
 use Rattle.nor_steps.specs.Register.{id_of, identified_then, disable_first, disable_second, quad_flag}
 use Rattle.nor_steps.specs.Protection.{unprotect_first}
-use Rattle.nor_pages.specs.Read.{read_from}
-use Rattle.nor_pages.specs.Write.{verified_then}
+use Rattle.nor_steps.specs.Read.{read_from}
+use Rattle.nor_steps.specs.Write.{verified_then}
 use Rattle.nor_next.specs.Wait.{writing_then}
 
 -- what follows a transfer that gave v

@@ -7,16 +7,16 @@ use Rattle.spi_flash.specs.declared.error.FlashError.{FlashError}
 use Rattle.spi_flash.specs.declared.wait.Wait.{Wait}
 use Rattle.spi_nor.specs.Opcode.{timings_of}
 use Rattle.spi_nor.specs.Status.{busy_of, write_enabled_of}
-use Rattle.nor_phases.specs.Transfer.{task_transfer, task_operation, after_unit}
-use Rattle.nor_phases.specs.declared.phase.Phase.{Phase}
-use Rattle.nor_phases.specs.declared.phase.Task.{Task}
-use Rattle.nor_phases.specs.declared.phase.WriteStep.{WriteStep}
-use Rattle.nor_phases.specs.declared.setup.Setup.{Setup}
+use Rattle.spi_nor.specs.Transfer.{task_transfer, task_operation, after_unit}
+use Rattle.spi_nor.specs.declared.phase.Phase.{Phase}
+use Rattle.spi_nor.specs.declared.phase.Task.{Task}
+use Rattle.spi_nor.specs.declared.phase.WriteStep.{WriteStep}
+use Rattle.spi_nor.specs.declared.setup.Setup.{Setup}
 use Rattle.nor_steps.specs.Then.{Then}
 use Rattle.nor_steps.specs.Go.{go_to, read1_then, read2_then}
 use Rattle.nor_steps.specs.Protection.{unprotect_second}
-use Rattle.nor_pages.specs.Write.{verify_then}
-use Rattle.nor_pages.specs.Erase.{erase_from}
+use Rattle.nor_steps.specs.Write.{verify_then}
+use Rattle.nor_steps.specs.Erase.{erase_from}
 
 -- write_enable: the look at its latch
 abbrev pub latch_then : Setup → Task → Then

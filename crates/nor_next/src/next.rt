@@ -3,14 +3,13 @@ ghost use Rattle.std.specs.Prelude.{◌≡◌};
 ghost use Rattle.nor_next.specs.Next.{after_phase, next_of};
 
 use crate::wait;
-use frames::frame::Outcome;
-use nor_answers::answer::Answer;
-use nor_pages::{read, write};
-use nor_phases::phase::{Phase, Task};
-use nor_phases::setup::Setup;
 use nor_steps::then::Then;
-use nor_steps::{go, protection, register};
+use nor_steps::{go, protection, read, register, write};
 use qspi::bytes;
+use qspi::frame::Outcome;
+use spi_nor::answer::Answer;
+use spi_nor::phase::{Phase, Task};
+use spi_nor::setup::Setup;
 use spi_nor::status;
 
 // ---- what follows a transfer that gave v

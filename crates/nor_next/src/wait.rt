@@ -4,17 +4,15 @@
 ghost use Rattle.std.specs.Prelude.{◌≡◌};
 ghost use Rattle.nor_next.specs.Wait.{latch_then, latched_then, resume_task, look_then, pause_then, wait_then, sent_then, looked_then, writing_then};
 
-use nor_pages::{erase, write};
-use nor_phases::phase::{Phase, Task, WriteStep};
-use nor_phases::setup::Setup;
-use nor_phases::transfer;
 use nor_steps::then::Then;
-use nor_steps::{go, protection};
+use nor_steps::{erase, go, protection, write};
 use qspi::transfer::Transfer;
 use spi_flash::error::FlashError;
 use spi_flash::wait;
 use spi_flash::wait::Wait;
-use spi_nor::{opcode, status};
+use spi_nor::phase::{Phase, Task, WriteStep};
+use spi_nor::setup::Setup;
+use spi_nor::{opcode, status, transfer};
 
 fn latch(setup: Setup, task: Task) -> Then
     ensures { result ≡ latch_then setup task }

@@ -1,14 +1,14 @@
 // Replays the construction of a single-line NOR over the tape on standard input, and prints its actions.
 #![tactic(auto)]
 
-use frames::loan::Loan;
 use lines::text::Writer;
 use nor_driver::part::Nor;
 use nor_tape::program;
 use qspi::bytes;
 use qspi::command::SCRATCH_LEN;
-use replay::call;
+use qspi::loan::Loan;
 use std::io;
+use tape::replay;
 
 // A construction without quad mode gives out five actions; the line of the end is the sixth.
 const LINES_MOST: u32 = 6;
@@ -38,7 +38,7 @@ fn main(rt: HostRuntime) -> io::Result<()> {
         if program::over(now) {
             return Ok(());
         }
-        now = call::advance::<Nor>(now, tape, &mut lent);
+        now = replay::advance::<Nor>(now, tape, &mut lent);
     }
     Ok(())
 }

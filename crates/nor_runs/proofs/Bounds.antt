@@ -12,14 +12,14 @@ use Rattle.flash_runs.proofs.Supplies.{Bounds}
 use Rattle.flash_runs.proofs.Weighing.{Weighs, delay_figures, delays-weigh, actions-weigh}
 use Rattle.spi_nor.specs.declared.opcode.Operation.{Operation}
 use Rattle.nor_runs.specs.Rust.{wait-ready}
-use Rattle.nor_phases.specs.Transfer.{erase_operation}
+use Rattle.spi_nor.specs.Transfer.{erase_operation}
 use Rattle.spi_nor.specs.WaitTable.{largest_of}
 use Rattle.nor_runs.specs.Program.{program_of}
 use Rattle.nor_runs.specs.Run.{nor_driver}
 use Rattle.nor_runs.specs.Bound.{page_taken, quad_bound, unit_bound, delay_bound, quad_weight, weight_of, wait_actions, action_bound}
-use Rattle.nor_phases.specs.declared.phase.EraseKind.{EraseKind}
-use Rattle.nor_phases.specs.declared.call.Call.{Call}
-use Rattle.nor_phases.specs.declared.setup.Setup.{Setup}
+use Rattle.spi_nor.specs.declared.phase.EraseKind.{EraseKind}
+use Rattle.spi_nor.specs.declared.call.Call.{Call}
+use Rattle.spi_nor.specs.declared.setup.Setup.{Setup}
 use Rattle.nor_runs.proofs.Waits.{wait-delays, wait-actions}
 use Rattle.nor_runs.proofs.Weights.{bounded-erase, weighed}
 

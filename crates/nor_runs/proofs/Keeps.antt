@@ -12,29 +12,29 @@ use Rattle.spi_flash.specs.Machine.{Onward}
 use Rattle.spi_flash.specs.declared.wait.Wait.{Wait}
 use Rattle.spi_nor.specs.Opcode.{timings_of}
 use Rattle.spi_nor.specs.Status.{busy_of, write_enabled_of, quad_enabled1_of, quad_enabled2_of, unprotected1_of, unprotected2_of}
-use Rattle.nor_phases.specs.Transfer.{place_of, chunk_of, page_of, task_operation, multiple_of, unit_size, step_kind, after_unit}
+use Rattle.spi_nor.specs.Transfer.{place_of, chunk_of, page_of, task_operation, multiple_of, unit_size, step_kind, after_unit}
 use Rattle.qspi.specs.Bytes.{byte_of}
 use Rattle.nor_next.specs.Next.{after_phase}
 use Rattle.spi_flash.specs.Range.{range_in_bounds}
 use Rattle.nor_steps.specs.Register.{id_of, device_at, device_for, known_as, built_then, identified_then}
-use Rattle.nor_pages.specs.Read.{read_from}
-use Rattle.nor_pages.specs.Write.{program_from, verify_then, verified_then}
+use Rattle.nor_steps.specs.Read.{read_from}
+use Rattle.nor_steps.specs.Write.{program_from, verify_then, verified_then}
 use Rattle.nor_steps.specs.Go.{go_to, end_with}
 use Rattle.nor_next.specs.Wait.{latched_then, resume_task, wait_then, writing_then}
-use Rattle.nor_pages.specs.Erase.{erase_unit, erase_from}
+use Rattle.nor_steps.specs.Erase.{erase_unit, erase_from}
 use Rattle.nor_steps.specs.Protection.{unprotect_first, unprotect_second}
 use Rattle.spi_nor.specs.Config.{in_bounds_of, from_jedec}
 use Rattle.spi_nor.proofs.DeviceBounds.{device_bounds}
 use Rattle.spi_nor.specs.declared.config.NorDeviceInfo.{NorDeviceInfo}
 use Rattle.spi_nor.specs.declared.config.NorJedecId.{NorJedecId}
-use Rattle.nor_phases.specs.declared.phase.EraseKind.{EraseKind}
-use Rattle.nor_phases.specs.declared.phase.Phase.{Phase}
-use Rattle.nor_phases.specs.declared.phase.Task.{Task}
-use Rattle.nor_phases.specs.declared.phase.WriteStep.{WriteStep}
-use Rattle.nor_answers.specs.declared.answer.Answer.{Answer}
+use Rattle.spi_nor.specs.declared.phase.EraseKind.{EraseKind}
+use Rattle.spi_nor.specs.declared.phase.Phase.{Phase}
+use Rattle.spi_nor.specs.declared.phase.Task.{Task}
+use Rattle.spi_nor.specs.declared.phase.WriteStep.{WriteStep}
+use Rattle.spi_nor.specs.declared.answer.Answer.{Answer}
 use Rattle.qspi.specs.declared.transfer.Transfer.{Transfer}
 use Rattle.spi_flash.specs.declared.error.FlashError.{FlashError}
-use Rattle.nor_phases.specs.declared.setup.Setup.{Setup}
+use Rattle.spi_nor.specs.declared.setup.Setup.{Setup}
 use Rattle.nor_steps.specs.Then.{Then}
 use Rattle.nor_runs.proofs.Places.{decide, Valid, Built, Stays}
 

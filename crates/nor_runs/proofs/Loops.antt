@@ -11,15 +11,15 @@ use Rattle.spi_flash.specs.Prog.{Prog, ret, ◌>>=◌, ◌>>◌, refuse, transfe
 use Rattle.spi_nor.specs.Opcode.{MAX-BULK-LEN}
 use Rattle.spi_nor.specs.Config.{in_bounds_of}
 use Rattle.spi_flash.specs.Range.{range_in_bounds}
-use Rattle.nor_phases.specs.Transfer.{place_of, chunk_of, page_of, read_transfer, unit_size, step_kind, after_unit}
+use Rattle.spi_nor.specs.Transfer.{place_of, chunk_of, page_of, read_transfer, unit_size, step_kind, after_unit}
 use Rattle.nor_runs.specs.Rust.{Nothing, read-loop, reading, page-program, write-loop, writing, erase-unit, erase-loop, erasing}
 use Rattle.spi_nor.specs.declared.config.NorDeviceInfo.{NorDeviceInfo}
-use Rattle.nor_phases.specs.declared.phase.EraseKind.{EraseKind}
-use Rattle.nor_phases.specs.declared.setup.Setup.{Setup}
+use Rattle.spi_nor.specs.declared.phase.EraseKind.{EraseKind}
+use Rattle.spi_nor.specs.declared.setup.Setup.{Setup}
 use Rattle.spi_flash.proofs.Pieces.{range-told}
 use Rattle.spi_flash.proofs.Loops.{Counts, without-fuel}
 use Rattle.spi_nor.proofs.DeviceBounds.{device_bounds}
-use Rattle.nor_phases.proofs.Pieces.{chunk-left, page-whole}
+use Rattle.spi_nor.proofs.Pieces.{chunk-left, page-whole}
 
 -- ---- a turn goes on
 

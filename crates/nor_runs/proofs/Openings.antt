@@ -21,22 +21,22 @@ use Rattle.flash_runs.proofs.Supplies.{Selects, SelectsFirst, Construction, Use,
 use Rattle.spi_nor.specs.Config.{in_bounds_of, single_config}
 use Rattle.spi_nor.specs.declared.config.SpiNorConfig.{SpiNorConfig}
 use Rattle.spi_flash.specs.Range.{range_in_bounds}
-use Rattle.nor_phases.specs.Transfer.{place_of, chunk_of, read_at, read_transfer, multiple_of, unit_size, step_kind, after_unit}
-use Rattle.nor_pages.specs.Read.{read_then, read_from}
-use Rattle.nor_pages.specs.Write.{write_then, program_from}
-use Rattle.nor_pages.specs.Erase.{erase_unit, erase_one, erase_then, erase_from}
+use Rattle.spi_nor.specs.Transfer.{place_of, chunk_of, read_at, read_transfer, multiple_of, unit_size, step_kind, after_unit}
+use Rattle.nor_steps.specs.Read.{read_then, read_from}
+use Rattle.nor_steps.specs.Write.{write_then, program_from}
+use Rattle.nor_steps.specs.Erase.{erase_unit, erase_one, erase_then, erase_from}
 use Rattle.machine.specs.Shape.{opening_as}
 use Rattle.nor_driver.specs.Call.{fresh_setup}
 use Rattle.nor_driver.specs.Settle.{then_as}
-use Rattle.nor_opening.specs.Opening.{opening_of}
+use Rattle.nor_steps.specs.Opening.{opening_of}
 use Rattle.nor_runs.specs.Rust.{read, write, erase-unit, erase, erasing}
 use Rattle.nor_runs.specs.Program.{Left, leaving, program_of}
 use Rattle.nor_runs.specs.Run.{sort_of, nor_driver}
-use Rattle.nor_phases.specs.declared.phase.EraseKind.{EraseKind}
-use Rattle.nor_phases.specs.declared.phase.Phase.{Phase}
-use Rattle.nor_answers.specs.declared.answer.Answer.{Answer}
-use Rattle.nor_phases.specs.declared.call.Call.{Call}
-use Rattle.nor_phases.specs.declared.setup.Setup.{Setup}
+use Rattle.spi_nor.specs.declared.phase.EraseKind.{EraseKind}
+use Rattle.spi_nor.specs.declared.phase.Phase.{Phase}
+use Rattle.spi_nor.specs.declared.answer.Answer.{Answer}
+use Rattle.spi_nor.specs.declared.call.Call.{Call}
+use Rattle.spi_nor.specs.declared.setup.Setup.{Setup}
 use Rattle.nor_steps.specs.Go.{go_to}
 use Rattle.nor_steps.specs.Then.{Then}
 use Rattle.nor_runs.proofs.Loops.{erasing-loop}

@@ -7,9 +7,9 @@ use Rattle.spi_flash.specs.Prog.{ret, ◌>>◌}
 use Rattle.flash_runs.proofs.Asking.{not-refused, passed}
 use Rattle.flash_runs.proofs.Supplies.{Asks}
 use Rattle.spi_flash.specs.Range.{range_in_bounds}
-use Rattle.nor_phases.specs.Transfer.{multiple_of, unit_size}
-use Rattle.nor_phases.specs.declared.phase.EraseKind.{EraseKind}
-use Rattle.nor_phases.specs.declared.setup.Setup.{Setup}
+use Rattle.spi_nor.specs.Transfer.{multiple_of, unit_size}
+use Rattle.spi_nor.specs.declared.phase.EraseKind.{EraseKind}
+use Rattle.spi_nor.specs.declared.setup.Setup.{Setup}
 use Rattle.nor_runs.specs.Rust.{read, write, erase-unit, erase}
 use Rattle.nor_runs.specs.Program.{Left}
 

@@ -1,7 +1,7 @@
 -- Where a call stands, what the code decides there, and how each call opens: the NOR driver as flash_runs makes one.
 use mathlib.Core.Bool.{true}
 use mathlib.Core.Path.{◌≡◌}
-use Rattle.frames.specs.Frame.{Outcome}
+use Rattle.qspi.specs.Frame.{Outcome}
 use Rattle.spi_flash.specs.Machine.{Decision}
 use Rattle.flash_runs.proofs.General as General
 use Rattle.flash_runs.proofs.General.{Parts, parts_of}
@@ -11,10 +11,10 @@ use Rattle.nor_driver.specs.Call.{nor_calls}
 use Rattle.nor_driver.specs.Settle.{then_as}
 use Rattle.nor_driver.specs.Step.{nor_next}
 use Rattle.nor_runs.specs.Program.{Left}
-use Rattle.nor_answers.specs.declared.answer.Answer.{Answer}
-use Rattle.nor_phases.specs.declared.call.Call.{Call}
-use Rattle.nor_phases.specs.declared.phase.Phase.{Phase}
-use Rattle.nor_phases.specs.declared.setup.Setup.{Setup}
+use Rattle.spi_nor.specs.declared.answer.Answer.{Answer}
+use Rattle.spi_nor.specs.declared.call.Call.{Call}
+use Rattle.spi_nor.specs.declared.phase.Phase.{Phase}
+use Rattle.spi_nor.specs.declared.setup.Setup.{Setup}
 use Rattle.nor_steps.specs.Then.{Then}
 
 -- where a call stands, with what the driver holds

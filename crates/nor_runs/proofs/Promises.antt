@@ -1,12 +1,12 @@
 -- The NOR driver keeps every promise.
 -- Assumes nothing.
 use Rattle.std.specs.Prelude.{Ok, Err}
-use Rattle.frames.specs.Frame.{Outcome}
+use Rattle.qspi.specs.Frame.{Outcome}
 use Rattle.flash_runs.proofs.Promises.{promises}
 use Rattle.flash_runs.proofs.Supplies.{Supplies}
 use Rattle.nor_next.specs.Next.{next_of}
-use Rattle.nor_phases.specs.declared.phase.Phase.{Phase}
-use Rattle.nor_phases.specs.declared.setup.Setup.{Setup}
+use Rattle.spi_nor.specs.declared.phase.Phase.{Phase}
+use Rattle.spi_nor.specs.declared.setup.Setup.{Setup}
 use Rattle.nor_runs.specs.Run.{nor_driver, NorPromises}
 use Rattle.nor_runs.proofs.Places.{nor_parts, Valid, Built, Stays}
 use Rattle.nor_runs.proofs.Keeps.{stays, keeps-built}

@@ -23,7 +23,7 @@ use Rattle.spi_flash.proofs.Replies.{byte, zeros, delivery, same_bytes}
 use Rattle.flash_runs.proofs.Supplies.{Asks, Bounds}
 use Rattle.spi_nor.specs.Opcode.{MAX-BULK-LEN}
 use Rattle.spi_nor.specs.Config.{from_jedec, single_config, in_bounds_of}
-use Rattle.nor_phases.specs.Transfer.{place_of, page_of, read_at, read_transfer, program_at, program_transfer, multiple_of, unit_size, step_kind, after_unit}
+use Rattle.spi_nor.specs.Transfer.{place_of, page_of, read_at, read_transfer, program_at, program_transfer, multiple_of, unit_size, step_kind, after_unit}
 use Rattle.spi_flash.specs.Range.{range_in_bounds}
 use Rattle.nor_steps.specs.Register.{device_at, device_for, id_of, known_as}
 use Rattle.nor_driver.specs.Call.{given_at, fresh_setup}
@@ -32,12 +32,12 @@ use Rattle.nor_runs.specs.Program.{Left, program_of}
 use Rattle.nor_runs.specs.Bound.{page_taken, quad_bound, construction_bound, unit_bound, erase_sum, delay_bound}
 use Rattle.nor_runs.specs.Run.{sort_of, can_end, nor_driver}
 use Rattle.spi_nor.specs.declared.config.SpiNorConfig.{SpiNorConfig}
-use Rattle.nor_phases.specs.declared.phase.EraseKind.{EraseKind}
-use Rattle.nor_phases.specs.declared.call.Call.{Call}
-use Rattle.nor_phases.specs.declared.setup.Setup.{Setup}
+use Rattle.spi_nor.specs.declared.phase.EraseKind.{EraseKind}
+use Rattle.spi_nor.specs.declared.call.Call.{Call}
+use Rattle.spi_nor.specs.declared.setup.Setup.{Setup}
 use Rattle.spi_nor.specs.declared.opcode.Operation.{Operation}
 use Rattle.spi_nor.proofs.DeviceBounds.{device_bounds}
-use Rattle.nor_phases.proofs.Pieces.{page-whole}
+use Rattle.spi_nor.proofs.Pieces.{page-whole}
 use Rattle.spi_flash.proofs.Pieces.{range-told, range-in}
 use Rattle.nor_runs.proofs.Loops.{reading-loop, writing-loop, chunk-turns, page-turns, after-unit}
 use Rattle.nor_runs.proofs.Waits.{wait-ends}

@@ -21,16 +21,16 @@ use Rattle.flash_runs.proofs.Looking.{looked, no_wrap}
 use Rattle.spi_nor.specs.Opcode.{timings_of}
 use Rattle.spi_nor.specs.Status.{busy_of, write_enabled_of, quad_enabled1_of, quad_enabled2_of, with_quad1_of, with_quad2_of, without_quad1_of, without_quad2_of, unprotected1_of, unprotected2_of}
 use Rattle.spi_nor.specs.Command.{write_enable_command, read_status1_command, read_status2_command, read_id_command, read_unique_id_command}
-use Rattle.nor_phases.specs.Transfer.{place_of, chunk_of, page_of, task_transfer, task_operation, multiple_of, unit_size, step_kind, after_unit}
+use Rattle.spi_nor.specs.Transfer.{place_of, chunk_of, page_of, task_transfer, task_operation, multiple_of, unit_size, step_kind, after_unit}
 use Rattle.qspi.specs.Bytes.{byte_of}
 use Rattle.nor_next.specs.Next.{after_phase, next_of}
 use Rattle.spi_flash.specs.Range.{range_in_bounds, span}
 use Rattle.spi_flash.specs.Number.{number_transfer}
 use Rattle.nor_steps.specs.Register.{id_of, known_as, built_then, identified_then}
-use Rattle.nor_pages.specs.Read.{read_from}
-use Rattle.nor_pages.specs.Write.{program_from, verify_then, verified_then}
+use Rattle.nor_steps.specs.Read.{read_from}
+use Rattle.nor_steps.specs.Write.{program_from, verify_then, verified_then}
 use Rattle.nor_next.specs.Wait.{latched_then, resume_task, wait_then, writing_then}
-use Rattle.nor_pages.specs.Erase.{erase_unit, erase_from}
+use Rattle.nor_steps.specs.Erase.{erase_unit, erase_from}
 use Rattle.nor_steps.specs.Protection.{unprotect_first, unprotect_second}
 use Rattle.nor_runs.specs.Rust.{Nothing, busy_value, read-status1, read-status2, is-busy, wait-ready, write-enable, write-status1, write-status2, jedec-id, unique-id, quad-enabled, enable-quad, disable-quad, reading, read_back, page-program, writing, erase-unit, erasing, Unprotected, unprotect, quad-if, with-config}
 use Rattle.nor_driver.specs.Call.{fresh_setup}
@@ -40,12 +40,12 @@ use Rattle.spi_nor.proofs.WaitTable.{wait-table}
 use Rattle.spi_nor.proofs.DeviceBounds.{device_bounds}
 use Rattle.nor_runs.proofs.Loops.{reading-loop, writing-loop, erasing-loop}
 use Rattle.spi_nor.specs.declared.config.SpiNorConfig.{SpiNorConfig}
-use Rattle.nor_phases.specs.declared.phase.EraseKind.{EraseKind}
-use Rattle.nor_phases.specs.declared.phase.Phase.{Phase}
-use Rattle.nor_phases.specs.declared.phase.Task.{Task}
-use Rattle.nor_phases.specs.declared.phase.WriteStep.{WriteStep}
-use Rattle.nor_answers.specs.declared.answer.Answer.{Answer}
-use Rattle.nor_phases.specs.declared.setup.Setup.{Setup}
+use Rattle.spi_nor.specs.declared.phase.EraseKind.{EraseKind}
+use Rattle.spi_nor.specs.declared.phase.Phase.{Phase}
+use Rattle.spi_nor.specs.declared.phase.Task.{Task}
+use Rattle.spi_nor.specs.declared.phase.WriteStep.{WriteStep}
+use Rattle.spi_nor.specs.declared.answer.Answer.{Answer}
+use Rattle.spi_nor.specs.declared.setup.Setup.{Setup}
 use Rattle.spi_nor.specs.declared.opcode.Operation.{Operation}
 use Rattle.nor_runs.proofs.Places.{Place, place, decide, decide_next, Valid}
 use Rattle.nor_runs.proofs.Keeps.{keeps}

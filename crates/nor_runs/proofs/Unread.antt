@@ -22,11 +22,11 @@ use Rattle.spi_nor.specs.Opcode.{timings_of}
 use Rattle.spi_nor.specs.Command.{read_status1_command}
 use Rattle.spi_nor.specs.declared.config.NorDeviceInfo.{NorDeviceInfo}
 use Rattle.spi_flash.specs.Range.{range_in_bounds}
-use Rattle.nor_phases.specs.Transfer.{place_of, chunk_of, read_at, read_transfer, step_kind, after_unit}
-use Rattle.nor_phases.proofs.Pieces.{chunk-within}
-use Rattle.nor_answers.specs.declared.answer.Answer.{Answer}
-use Rattle.nor_phases.specs.declared.setup.Setup.{Setup}
-use Rattle.nor_phases.specs.declared.call.Call.{Call}
+use Rattle.spi_nor.specs.Transfer.{place_of, chunk_of, read_at, read_transfer, step_kind, after_unit}
+use Rattle.spi_nor.proofs.Pieces.{chunk-within}
+use Rattle.spi_nor.specs.declared.answer.Answer.{Answer}
+use Rattle.spi_nor.specs.declared.setup.Setup.{Setup}
+use Rattle.spi_nor.specs.declared.call.Call.{Call}
 use Rattle.nor_runs.specs.Rust.{busy_value, wait-ready, reading, read}
 use Rattle.nor_runs.specs.Program.{Left, leaving, program_of}
 use Rattle.nor_runs.specs.Bound.{page_taken, erase_sum, quad_weight, weight_of}

@@ -21,13 +21,13 @@ use Rattle.spi_flash.proofs.Loops.{bounded-loop}
 use Rattle.spi_nor.specs.Status.{quad_enabled1_of, quad_enabled2_of, unprotected1_of, unprotected2_of}
 use Rattle.spi_nor.specs.Opcode.{MAX-BULK-LEN}
 use Rattle.spi_flash.specs.Number.{number_transfer}
-use Rattle.nor_phases.specs.Transfer.{read_at, read_transfer, program_at, program_transfer, erase_transfer, erase_operation, multiple_of, step_kind, after_unit}
+use Rattle.spi_nor.specs.Transfer.{read_at, read_transfer, program_at, program_transfer, erase_transfer, erase_operation, multiple_of, step_kind, after_unit}
 use Rattle.flash_runs.specs.Weight.{Figures}
 use Rattle.flash_runs.proofs.Supplies.{Bounds}
 use Rattle.flash_runs.proofs.Weighing.{sunk, Weighs}
 use Rattle.spi_nor.specs.Config.{single_config}
 use Rattle.spi_nor.proofs.DeviceBounds.{device_bounds}
-use Rattle.nor_phases.specs.declared.call.Call.{Call}
+use Rattle.spi_nor.specs.declared.call.Call.{Call}
 use Rattle.nor_driver.specs.Call.{given_at}
 use Rattle.nor_steps.specs.Register.{device_at, device_for, id_of}
 use Rattle.nor_runs.specs.Rust.{read-status1, read-status2, is-busy, wait-ready, write-enable, write-status1, write-status2, jedec-id, unique-id, quad-enabled, enable-quad, disable-quad, reading, read, read_back, page-program, writing, write, erase-unit, erase-loop, erasing, erase, unprotect, quad-if, with-config}
@@ -36,8 +36,8 @@ use Rattle.nor_runs.specs.Program.{program_of}
 use Rattle.nor_runs.specs.Run.{nor_driver}
 use Rattle.spi_nor.specs.declared.config.NorJedecId.{NorJedecId}
 use Rattle.spi_nor.specs.declared.config.SpiNorConfig.{SpiNorConfig}
-use Rattle.nor_phases.specs.declared.phase.EraseKind.{EraseKind}
-use Rattle.nor_phases.specs.declared.setup.Setup.{Setup}
+use Rattle.spi_nor.specs.declared.phase.EraseKind.{EraseKind}
+use Rattle.spi_nor.specs.declared.setup.Setup.{Setup}
 use Rattle.spi_nor.specs.declared.opcode.Operation.{Operation}
 use Rattle.nor_runs.proofs.Loops.{reading-loop, writing-loop, chunk-turns, page-turns}
 

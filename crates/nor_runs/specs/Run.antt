@@ -7,15 +7,15 @@ use Rattle.flash_runs.specs.Driver.{Sort, constructs, tells, releases, uses, Dri
 use Rattle.flash_runs.specs.System.{system_of}
 use Rattle.flash_runs.specs.Promises.{Promises}
 use Rattle.spi_nor.specs.Config.{single_config}
-use Rattle.nor_answers.specs.Answer.{answer_values}
-use Rattle.nor_answers.specs.declared.answer.Answer.{Answer}
-use Rattle.nor_phases.specs.declared.setup.Setup.{Setup}
+use Rattle.spi_nor.specs.Answer.{answer_values}
+use Rattle.spi_nor.specs.declared.answer.Answer.{Answer}
+use Rattle.spi_nor.specs.declared.setup.Setup.{Setup}
 use Rattle.nor_driver.specs.Step.{step_of, delivered_part}
 use Rattle.nor_driver.specs.Call.{fresh_setup, not_built, nor_calls, begin_of}
 use Rattle.nor_driver.specs.Settle.{nor_shape}
 use Rattle.nor_runs.specs.Program.{Left, program_of}
 use Rattle.nor_runs.specs.Bound.{page_taken, delay_bound, action_bound}
-use Rattle.nor_phases.specs.declared.call.Call.{Call}
+use Rattle.spi_nor.specs.declared.call.Call.{Call}
 use Rattle.nor_driver.specs.Settle.{SpiNorFlash}
 
 -- the driver as it is stepped: `begin` and `step`

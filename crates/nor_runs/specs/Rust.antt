@@ -16,14 +16,14 @@ use Rattle.spi_nor.specs.Config.{single_config}
 use Rattle.spi_nor.specs.Command.{write_enable_command, read_status1_command, read_status2_command, write_status1_command, write_status2_command, read_id_command, read_unique_id_command}
 use Rattle.spi_flash.specs.Range.{range_in_bounds}
 use Rattle.spi_flash.specs.Number.{number_transfer}
-use Rattle.nor_phases.specs.Transfer.{place_of, chunk_of, page_of, read_transfer, program_transfer, erase_transfer, erase_operation, multiple_of, unit_size, step_kind, after_unit}
+use Rattle.spi_nor.specs.Transfer.{place_of, chunk_of, page_of, read_transfer, program_transfer, erase_transfer, erase_operation, multiple_of, unit_size, step_kind, after_unit}
 use Rattle.nor_steps.specs.Register.{MAX-VERIFY-PAGE-SIZE, id_of, known_as}
 use Rattle.qspi.specs.Bytes.{byte_of}
 use Rattle.nor_driver.specs.Call.{fresh_setup}
 use Rattle.spi_nor.specs.declared.config.NorJedecId.{NorJedecId}
 use Rattle.spi_nor.specs.declared.config.SpiNorConfig.{SpiNorConfig}
-use Rattle.nor_phases.specs.declared.phase.EraseKind.{EraseKind}
-use Rattle.nor_phases.specs.declared.setup.Setup.{Setup}
+use Rattle.spi_nor.specs.declared.phase.EraseKind.{EraseKind}
+use Rattle.spi_nor.specs.declared.setup.Setup.{Setup}
 use Rattle.spi_nor.specs.declared.opcode.Operation.{Operation}
 
 abbrev pub Nothing : Type 0

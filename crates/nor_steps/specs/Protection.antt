@@ -2,9 +2,9 @@
 use Rattle.std.specs.Prelude.{ℕ, eqb}
 use Rattle.qspi.specs.Choice.{pick}
 use Rattle.spi_nor.specs.Status.{unprotected1_of, unprotected2_of}
-use Rattle.nor_phases.specs.declared.phase.Phase.{Phase}
-use Rattle.nor_phases.specs.declared.phase.Task.{Task}
-use Rattle.nor_phases.specs.declared.setup.Setup.{Setup}
+use Rattle.spi_nor.specs.declared.phase.Phase.{Phase}
+use Rattle.spi_nor.specs.declared.phase.Task.{Task}
+use Rattle.spi_nor.specs.declared.setup.Setup.{Setup}
 use Rattle.nor_steps.specs.Then.{Then}
 use Rattle.nor_steps.specs.Go.{read1_then, enabled_then}
 

@@ -7,10 +7,10 @@ use Rattle.spi_nor.specs.Status.{quad_enabled1_of, quad_enabled2_of}
 use Rattle.spi_nor.specs.Config.{from_jedec, jedec_id}
 use Rattle.spi_nor.specs.declared.config.NorDeviceInfo.{NorDeviceInfo}
 use Rattle.spi_nor.specs.declared.config.NorJedecId.{NorJedecId}
-use Rattle.nor_phases.specs.declared.phase.Phase.{Phase}
-use Rattle.nor_phases.specs.declared.phase.Task.{Task}
-use Rattle.nor_answers.specs.declared.answer.Answer.{Answer}
-use Rattle.nor_phases.specs.declared.setup.Setup.{Setup}
+use Rattle.spi_nor.specs.declared.phase.Phase.{Phase}
+use Rattle.spi_nor.specs.declared.phase.Task.{Task}
+use Rattle.spi_nor.specs.declared.answer.Answer.{Answer}
+use Rattle.spi_nor.specs.declared.setup.Setup.{Setup}
 use Rattle.nor_steps.specs.Then.{Then}
 use Rattle.nor_steps.specs.Go.{end_with, read1_then, read2_then, enabled_then}
 

@@ -5,14 +5,14 @@ ghost use Rattle.nor_steps.specs.Go.{go_to, read1_then, read2_then, read_id_then
 
 use crate::then::Then;
 pub use machine::then::{end, go};
-use nor_answers::answer::Answer;
-use nor_phases::phase::{Phase, Task, WriteStep};
-use nor_phases::setup::Setup;
 use qspi::command::Command;
 use qspi::transfer::Transfer;
 use spi_flash::error::FlashError;
 use spi_flash::number;
+use spi_nor::answer::Answer;
 use spi_nor::command;
+use spi_nor::phase::{Phase, Task, WriteStep};
+use spi_nor::setup::Setup;
 
 // A read of a register or an id: the calls below differ in the command and the number of bytes.
 fn read(setup: Setup, command: Command, len: usize, phase: Phase) -> Then

@@ -5,9 +5,9 @@ ghost use Rattle.nor_steps.specs.Protection.{unprotect_first, unprotect_second};
 
 use crate::go;
 use crate::then::Then;
-use nor_answers::answer::Answer;
-use nor_phases::phase::{Phase, Task};
-use nor_phases::setup::Setup;
+use spi_nor::answer::Answer;
+use spi_nor::phase::{Phase, Task};
+use spi_nor::setup::Setup;
 use spi_nor::status;
 
 // `if wanted_sr1 != before`

@@ -6,11 +6,11 @@ ghost use Rattle.nor_steps.specs.Register.{id_of, device_for, identified_then, q
 
 use crate::go;
 use crate::then::Then;
-use nor_answers::answer::Answer;
-use nor_phases::phase::{Phase, Task};
-use nor_phases::setup::Setup;
 use spi_flash::error::FlashError;
+use spi_nor::answer::Answer;
 use spi_nor::config::{NorDeviceInfo, NorJedecId};
+use spi_nor::phase::{Phase, Task};
+use spi_nor::setup::Setup;
 use spi_nor::status;
 
 // The largest page that a read-back is made of.

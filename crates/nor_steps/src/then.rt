@@ -1,8 +1,8 @@
 // What follows a transfer: the machine's types at this part's own, which only their names tell from the other part's.
 use machine::then;
-use nor_answers::answer::Answer;
-use nor_phases::phase::Phase;
-use nor_phases::setup::Setup;
+use spi_nor::answer::Answer;
+use spi_nor::phase::Phase;
+use spi_nor::setup::Setup;
 
 pub type Then = then::Then<Setup, Phase, Answer>;
 

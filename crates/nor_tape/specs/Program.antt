@@ -7,10 +7,10 @@ use Rattle.lines.specs.Line.{line_of, end_line}
 use Rattle.nor_driver.specs.Answer.{ending_number}
 use Rattle.nor_driver.specs.Call.{not_built}
 use Rattle.nor_driver.specs.Settle.{refused_of}
-use Rattle.nor_phases.specs.declared.call.Call.{Call}
-use Rattle.nor_answers.specs.declared.answer.Answer.{Answer}
+use Rattle.spi_nor.specs.declared.call.Call.{Call}
+use Rattle.spi_nor.specs.declared.answer.Answer.{Answer}
 use Rattle.machine.specs.declared.state.Given.{Given}
-use Rattle.replay.specs.Replay.{replay_at}
+use Rattle.tape.specs.Replay.{replay_at}
 use Rattle.nor_tape.specs.Replay.{Replay, begun_over}
 
 -- "takes a tape of at most 65,536 bytes on standard input (a longer one is 15), builds a NOR with SpiNorConfig::single()"

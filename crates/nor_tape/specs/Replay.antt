@@ -2,12 +2,12 @@
 use Rattle.std.specs.Prelude.{ℕ, List}
 use Rattle.tape.specs.Replaying as Replaying
 use Rattle.tape.specs.Replaying.{Taped}
-use Rattle.replay.specs.Replay.{taped}
-use Rattle.replay.specs.declared.call.Replay as Machine
-use Rattle.nor_answers.specs.declared.answer.Answer.{Answer}
-use Rattle.nor_phases.specs.declared.call.Call.{Call}
-use Rattle.nor_phases.specs.declared.phase.Phase.{Phase}
-use Rattle.nor_phases.specs.declared.setup.Setup.{Setup}
+use Rattle.tape.specs.Replay.{taped}
+use Rattle.tape.specs.declared.replay.Replay as Machine
+use Rattle.spi_nor.specs.declared.answer.Answer.{Answer}
+use Rattle.spi_nor.specs.declared.call.Call.{Call}
+use Rattle.spi_nor.specs.declared.phase.Phase.{Phase}
+use Rattle.spi_nor.specs.declared.setup.Setup.{Setup}
 use Rattle.nor_driver.specs.Call.{nor_calls}
 use Rattle.nor_driver.specs.Settle.{SpiNorFlash, Stepped}
 use Rattle.nor_driver.specs.Step.{nor_next}

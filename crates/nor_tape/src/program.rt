@@ -3,15 +3,15 @@ ghost use Rattle.std.specs.Prelude.{◌≡◌, length};
 ghost use Rattle.lines.specs.Writing.{Appends};
 ghost use Rattle.nor_tape.specs.Program.{begun_input, over_of, line_at};
 
-use frames::loan::Lengths;
 use lines::text::Writer;
 use machine::state::Given;
 use nor_driver::part;
 use nor_driver::part::Nor;
-use nor_phases::call::Call;
-use replay::call;
-use replay::call::{Replay, ReplayOf};
+use qspi::loan::Lengths;
 use spi_flash::error::FlashError;
+use spi_nor::call::Call;
+use tape::replay;
+use tape::replay::{Replay, ReplayOf};
 
 // The longest tape that the program takes.
 pub const INPUT_MOST: usize = 65536;
@@ -23,7 +23,7 @@ pub fn begin(input: &[u8], scratch: &[u8]) -> ReplayOf<Nor>
 {
     let flash = part::not_built();
     if input.len() <= INPUT_MOST {
-        return call::begin::<Nor>(
+        return replay::begin::<Nor>(
             flash,
             Call::New,
             input,

@@ -3,3 +3,4 @@ pub mod Filler
 pub mod Addresses
 pub mod Numbers
 pub mod Cases
+pub mod Sent

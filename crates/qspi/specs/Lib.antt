@@ -6,3 +6,6 @@ pub mod Address
 pub mod Bytes
 pub mod Numbers
 pub mod Shown
+pub mod Frame
+pub mod Loan
+pub mod ShownBytes

@@ -6,23 +6,23 @@ use Rattle.spi_flash.specs.WaitLaw.{largest_sum, looks}
 use Rattle.spi_nor.specs.Command.{read_command}
 use Rattle.spi_nor.specs.Config.{jedec_id, w25q128jv, from_jedec, single_config}
 use Rattle.spi_nor.specs.declared.config.NorDeviceInfo.{NorDeviceInfo}
-use Rattle.nor_phases.specs.Transfer.{step_kind, after_unit}
+use Rattle.spi_nor.specs.Transfer.{step_kind, after_unit}
 use Rattle.nor_driver.specs.Call.{fresh_setup}
 use Rattle.nor_runs.specs.Bound.{delay_bound}
-use Rattle.nor_phases.specs.declared.phase.EraseKind.{EraseKind}
-use Rattle.nor_phases.specs.declared.call.Call.{Call}
+use Rattle.spi_nor.specs.declared.phase.EraseKind.{EraseKind}
+use Rattle.spi_nor.specs.declared.call.Call.{Call}
 use Rattle.spi_nand.specs.Opcode.{timings_of}
 use Rattle.spi_nand.specs.Command.{page_read_command}
 use Rattle.spi_nand.specs.Status.{status_of, verdict_number, verdict_of, QUAD-ENABLE, BUFFER-READ, ECC-ENABLE, OPERATIONAL, configuration_of, configuration_byte, with_bits, protection_of, is_unlocked}
 use Rattle.spi_nand.specs.Config.{W25N01GV, single_config as single_nand}
 use Rattle.spi_nand.specs.declared.opcode.Operation.{Operation}
 use Rattle.spi_nand.specs.declared.status.Configuration.{Configuration}
-use Rattle.nand_phases.specs.Transfer.{place_of, page_at, column_at, chunk_of}
-use Rattle.nand_phases.specs.declared.call.Call.{Call as NandCall}
+use Rattle.spi_nand.specs.Transfer.{place_of, page_at, column_at, chunk_of}
+use Rattle.spi_nand.specs.declared.call.Call.{Call as NandCall}
 use Rattle.nand_driver.specs.Answer.{ending_number}
 use Rattle.nand_driver.specs.Call.{fresh_setup as fresh_nand, begin_of}
 use Rattle.nand_driver.specs.Settle.{SpiNandFlash, flash_of}
-use Rattle.nand_answers.specs.declared.answer.Answer.{Answer}
+use Rattle.spi_nand.specs.declared.answer.Answer.{Answer}
 use Rattle.machine.specs.declared.state.Given.{Given}
 
 -- the numbers that the definitions give, and those of the document

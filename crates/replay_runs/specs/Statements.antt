@@ -4,12 +4,12 @@ use Rattle.tape_runs.specs.Player.{player_of}
 use Rattle.tape_runs.specs.Replays.{ReplayRuns}
 use Rattle.nor_tape.specs.Replay.{nor_taped}
 use Rattle.tape.specs.Replaying.{Taped}
-use Rattle.replay.specs.Replay.{taped}
-use Rattle.replay.specs.declared.call.Replay.{Replay}
-use Rattle.nand_answers.specs.declared.answer.Answer.{Answer}
-use Rattle.nand_phases.specs.declared.call.Call.{Call}
-use Rattle.nand_phases.specs.declared.phase.Phase.{Phase}
-use Rattle.nand_phases.specs.declared.setup.Setup.{Setup}
+use Rattle.tape.specs.Replay.{taped}
+use Rattle.tape.specs.declared.replay.Replay.{Replay}
+use Rattle.spi_nand.specs.declared.answer.Answer.{Answer}
+use Rattle.spi_nand.specs.declared.call.Call.{Call}
+use Rattle.spi_nand.specs.declared.phase.Phase.{Phase}
+use Rattle.spi_nand.specs.declared.setup.Setup.{Setup}
 use Rattle.nand_driver.specs.Call.{nand_calls}
 use Rattle.nand_driver.specs.Settle.{SpiNandFlash, Stepped}
 use Rattle.nand_driver.specs.Step.{nand_next}

@@ -9,15 +9,15 @@ use lib.ListN.{length}
 use Rattle.qspi.specs.Bus.{awaits_of, fits_at}
 use Rattle.qspi.specs.Command.{command_bytes}
 use Rattle.qspi.specs.Shown.{high, write, read, quad_read, quad_write}
-use Rattle.frames.specs.ShownBytes.{payload_bytes, start_shown, shown_at}
-use Rattle.frames.specs.Frame.{Outcome, action_at, start_action, sink_of, value_of, taken_at, frame_at, advanced_at}
+use Rattle.qspi.specs.ShownBytes.{payload_bytes, start_shown, shown_at}
+use Rattle.qspi.specs.Frame.{Outcome, action_at, start_action, sink_of, value_of, taken_at, frame_at, advanced_at}
 use Rattle.qspi.specs.declared.bus.Awaits.{Awaits}
 use Rattle.qspi.specs.declared.bus.Reply.{Reply}
 use Rattle.qspi.specs.declared.transfer.Sink.{Sink}
 use Rattle.qspi.specs.declared.transfer.Body.{Body}
 use Rattle.qspi.specs.declared.transfer.Transfer.{Transfer}
-use Rattle.frames.specs.declared.frame.Stage.{Stage}
-use Rattle.frames.specs.declared.frame.Advanced.{Advanced}
+use Rattle.qspi.specs.declared.frame.Stage.{Stage}
+use Rattle.qspi.specs.declared.frame.Advanced.{Advanced}
 use Rattle.spi_flash.specs.declared.error.FlashError.{FlashError}
 use Rattle.spi_flash.specs.Run.{Answer}
 use Rattle.spi_flash.specs.OnBus.{BusProg, answers, stops, does, ◌>>=◌, ◌>>◌, Result, ok, result_at, plain, sending, stored, reading, question, if_ok, framed, framed_then, on_bus, performed}

@@ -8,14 +8,14 @@ use mathlib.Core.List.{List, [], ◌∷◌, ◌++◌}
 use lib.ListN.{length}
 use borrow.Author.Tests.{eq-eqb}
 use Rattle.qspi.specs.Bus.{fits_of}
-use Rattle.frames.specs.Frame.{Outcome, first_of, action_of, exchange_of, advanced_of, frame_at, value_of}
+use Rattle.qspi.specs.Frame.{Outcome, first_of, action_of, exchange_of, advanced_of, frame_at, value_of}
 use Rattle.qspi.specs.declared.bus.Reply.{Reply}
 use Rattle.qspi.specs.declared.transfer.Body.{Body}
 use Rattle.qspi.specs.declared.transfer.Transfer.{Transfer}
 use Rattle.qspi.specs.declared.transfer.Sink.{Sink}
-use Rattle.frames.specs.declared.frame.Frame.{Frame}
-use Rattle.frames.specs.declared.frame.Stage.{Stage}
-use Rattle.frames.specs.declared.frame.Advanced.{Advanced}
+use Rattle.qspi.specs.declared.frame.Frame.{Frame}
+use Rattle.qspi.specs.declared.frame.Stage.{Stage}
+use Rattle.qspi.specs.declared.frame.Advanced.{Advanced}
 use Rattle.spi_flash.specs.declared.loan.Takes.{Takes}
 use Rattle.spi_flash.specs.Loan.{Lent}
 use Rattle.spi_flash.specs.Prog.{Prog, ret, fail, ask}

@@ -11,14 +11,14 @@ use lib.Dec.{lit<}
 use Rattle.qspi.specs.Choice.{pick}
 use Rattle.qspi.specs.Bus.{awaits_of, fits_at, fits_of}
 use Rattle.qspi.specs.Shown.{shown_of, delay_of}
-use Rattle.frames.specs.Frame.{Outcome, first_of, action_of, action_at, command_action, payload_action, exchanged_to, exchange_of, advanced_of, advanced_at, frame_at, moved_on, next_stage, gave, taken_in}
+use Rattle.qspi.specs.Frame.{Outcome, first_of, action_of, action_at, command_action, payload_action, exchanged_to, exchange_of, advanced_of, advanced_at, frame_at, moved_on, next_stage, gave, taken_in}
 use Rattle.qspi.specs.declared.bus.Reply.{Reply}
 use Rattle.qspi.specs.declared.transfer.Body.{Body}
 use Rattle.qspi.specs.declared.transfer.Transfer.{Transfer}
-use Rattle.frames.specs.declared.frame.Frame.{Frame}
-use Rattle.frames.specs.declared.frame.Stage.{Stage}
-use Rattle.frames.specs.declared.frame.Advanced.{Advanced}
-use Rattle.frames.specs.declared.frame.Exchanged.{Exchanged}
+use Rattle.qspi.specs.declared.frame.Frame.{Frame}
+use Rattle.qspi.specs.declared.frame.Stage.{Stage}
+use Rattle.qspi.specs.declared.frame.Advanced.{Advanced}
+use Rattle.qspi.specs.declared.frame.Exchanged.{Exchanged}
 use Rattle.spi_flash.specs.declared.loan.Takes.{Takes}
 use Rattle.spi_flash.specs.Loan.{Lent, ready_for}
 use Rattle.spi_flash.specs.Prog.{Prog, ask}

@@ -9,14 +9,14 @@ use lib.ListN.{length}
 use lib.Dec.{leb}
 use Rattle.qspi.specs.Choice.{pick}
 use Rattle.qspi.specs.Bus.{fits_of}
-use Rattle.frames.specs.Frame.{Outcome, first_of, action_of, sink_of, taken_into, taken_at, taken_in, exchanged_to, advanced_of, gave, exchange_of}
+use Rattle.qspi.specs.Frame.{Outcome, first_of, action_of, sink_of, taken_into, taken_at, taken_in, exchanged_to, advanced_of, gave, exchange_of}
 use Rattle.qspi.specs.declared.bus.Reply.{Reply}
 use Rattle.qspi.specs.declared.command.Command.{Command}
 use Rattle.qspi.specs.declared.transfer.Sink.{Sink}
 use Rattle.qspi.specs.declared.transfer.Transfer.{Transfer}
-use Rattle.frames.specs.declared.frame.Advanced.{Advanced}
-use Rattle.frames.specs.declared.frame.Exchanged.{Exchanged}
-use Rattle.frames.specs.declared.frame.Frame.{Frame}
+use Rattle.qspi.specs.declared.frame.Advanced.{Advanced}
+use Rattle.qspi.specs.declared.frame.Exchanged.{Exchanged}
+use Rattle.qspi.specs.declared.frame.Frame.{Frame}
 use Rattle.spi_flash.specs.declared.loan.Takes.{Takes}
 use Rattle.spi_flash.specs.declared.wait.Timings.{Timings}
 use Rattle.spi_flash.specs.Loan.{Lent}

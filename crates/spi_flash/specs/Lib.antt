@@ -18,3 +18,4 @@ pub mod Machine
 pub mod Seen
 pub mod OnBus
 pub mod Rows
+pub mod Value

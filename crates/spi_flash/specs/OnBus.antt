@@ -3,9 +3,9 @@
 use Rattle.std.specs.Prelude.{ℕ, List, [], ◌∷◌}
 use Rattle.qspi.specs.Bytes.{delivered_of}
 use Rattle.qspi.specs.Command.{command_bytes}
-use Rattle.frames.specs.Frame.{value_of}
+use Rattle.qspi.specs.Frame.{value_of}
 use Rattle.qspi.specs.Shown.{Shown, low, high, write, read, quad_read, quad_write, delay}
-use Rattle.frames.specs.ShownBytes.{payload_bytes}
+use Rattle.qspi.specs.ShownBytes.{payload_bytes}
 use Rattle.qspi.specs.declared.bus.Reply.{Reply}
 use Rattle.qspi.specs.declared.transfer.Sink.{Sink}
 use Rattle.qspi.specs.declared.transfer.Body.{Body}

@@ -2,9 +2,9 @@
 use Rattle.std.specs.Prelude.{ℕ, List, length, take}
 use Rattle.qspi.specs.declared.bus.Action.{Action}
 use Rattle.qspi.specs.declared.bus.Reply.{Reply}
-use Rattle.frames.specs.Frame.{Outcome, AfterExchange, delivered_by}
-use Rattle.frames.specs.declared.frame.Exchanged.{Exchanged}
-use Rattle.frames.specs.declared.frame.Frame.{Frame}
+use Rattle.qspi.specs.Frame.{Outcome, AfterExchange, delivered_by}
+use Rattle.qspi.specs.declared.frame.Exchanged.{Exchanged}
+use Rattle.qspi.specs.declared.frame.Frame.{Frame}
 use Rattle.spi_flash.specs.Loan.{exchange_for}
 use Rattle.spi_flash.specs.declared.error.FlashError.{FlashError}
 use Rattle.spi_flash.specs.Shape.{Then, Job, Running, idle, busy, Shape}

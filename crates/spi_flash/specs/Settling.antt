@@ -1,6 +1,6 @@
 -- What a step comes to: the next transfer's first action, or the call's end (document 01, "Actions and replies").
 use Rattle.std.specs.Prelude.{ℕ, true}
-use Rattle.frames.specs.Frame.{first_of, action_of}
+use Rattle.qspi.specs.Frame.{first_of, action_of}
 use Rattle.qspi.specs.declared.transfer.Transfer.{Transfer}
 use Rattle.spi_flash.specs.declared.error.FlashError.{FlashError}
 use Rattle.spi_flash.specs.declared.loan.Takes.{Takes}

@@ -1,7 +1,7 @@
 -- What both drivers are made of: a state in its parts, what a step gives, what follows a transfer and what a call is. The code
 -- has structs and enums for them (machine); how a driver steps is said over what stands here (Settling, Beginning, Replying).
 use Rattle.std.specs.Prelude.{ℕ, Bool}
-use Rattle.frames.specs.declared.frame.Frame.{Frame}
+use Rattle.qspi.specs.declared.frame.Frame.{Frame}
 use Rattle.qspi.specs.declared.bus.Action.{Action}
 use Rattle.qspi.specs.declared.transfer.Transfer.{Transfer}
 use Rattle.spi_flash.specs.declared.error.FlashError.{FlashError}

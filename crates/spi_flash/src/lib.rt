@@ -1,5 +1,5 @@
 // What both flash drivers share: their errors, what a call takes, whether it may begin, ranges and their pieces, reads of numbers, tables of
-// keys, and the rule of their waits.
+// keys, the rule of their waits, and an answer's values as numbers.
 #![tactic(auto)]
 
 pub mod entry;
@@ -8,4 +8,5 @@ pub mod loan;
 pub mod number;
 pub mod range;
 pub mod rows;
+pub mod value;
 pub mod wait;

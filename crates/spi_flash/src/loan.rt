@@ -1,14 +1,14 @@
 // What a call takes of what a host lends at each step.
 ghost use Rattle.std.specs.Prelude.{◌≡◌};
-ghost use Rattle.frames.specs.Frame.{exchanged_to};
-ghost use Rattle.frames.specs.Loan.{SameLoan, lending, returning};
+ghost use Rattle.qspi.specs.Frame.{exchanged_to};
+ghost use Rattle.qspi.specs.Loan.{SameLoan, lending, returning};
 ghost use Rattle.spi_flash.specs.Loan.{ready_of, exchange_for};
 
-use frames::exchange;
-use frames::frame::{Exchanged, Frame};
-use frames::loan::{Lengths, Loan};
 use qspi::bus::Reply;
 use qspi::command::SCRATCH_LEN;
+use qspi::exchange;
+use qspi::frame::{Exchanged, Frame};
+use qspi::loan::{Lengths, Loan};
 
 // What a call takes beside the scratch, with its length at the beginning: later steps are held to that length alone.
 // Nothing is one of the arms that each reader takes apart, and no None around the other two.

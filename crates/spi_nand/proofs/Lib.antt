@@ -2,3 +2,4 @@ pub mod WaitTable
 pub mod Saturating
 pub mod Geometries
 pub mod DatasheetAgrees
+pub mod Pieces

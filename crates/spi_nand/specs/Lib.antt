@@ -6,3 +6,8 @@ pub mod Command
 pub mod WaitTable
 pub mod Datasheet
 pub mod DatasheetAgrees
+pub mod Answer
+pub mod Setup
+pub mod Verdict
+pub mod Transfer
+pub mod BringUp

@@ -7,3 +7,5 @@ pub mod Command
 pub mod WaitTable
 pub mod Datasheet
 pub mod DatasheetAgrees
+pub mod Answer
+pub mod Transfer

@@ -5,3 +5,4 @@ pub mod Records
 pub mod Reader
 pub mod Replaying
 pub mod Statements
+pub mod Replay

@@ -9,10 +9,10 @@ use native.Mathlib.Omega.{arith}
 use Rattle.qspi.specs.Bus.{fits_of, on_bus}
 use Rattle.qspi.specs.declared.bus.Reply.{Reply}
 use Rattle.qspi.proofs.Cases.{by_cases}
-use Rattle.frames.specs.Frame.{action_of, exchange_of, advanced_of, gave, taken_in}
-use Rattle.frames.specs.declared.frame.Advanced.{Advanced}
-use Rattle.frames.specs.declared.frame.Exchanged.{Exchanged}
-use Rattle.frames.specs.declared.frame.Frame.{Frame}
+use Rattle.qspi.specs.Frame.{action_of, exchange_of, advanced_of, gave, taken_in}
+use Rattle.qspi.specs.declared.frame.Advanced.{Advanced}
+use Rattle.qspi.specs.declared.frame.Exchanged.{Exchanged}
+use Rattle.qspi.specs.declared.frame.Frame.{Frame}
 use Rattle.spi_flash.specs.Error.{error_number}
 use Rattle.spi_flash.specs.Loan.{Lent, ready_for}
 use Rattle.spi_flash.specs.Machine.{heard}

@@ -5,7 +5,7 @@ use mathlib.Core.List.{List, []}
 use Rattle.qspi.specs.Bus.{on_bus}
 use Rattle.qspi.specs.declared.bus.Reply.{Reply}
 use Rattle.qspi.proofs.Cases.{by_cases}
-use Rattle.frames.specs.Frame.{Outcome}
+use Rattle.qspi.specs.Frame.{Outcome}
 use Rattle.spi_flash.specs.Beginning.{Calls, begins}
 use Rattle.spi_flash.specs.Loan.{Lent}
 use Rattle.spi_flash.specs.Replying.{step_at, steps}

@@ -4,8 +4,8 @@ use mathlib.Core.Path.{refl}
 use mathlib.Core.List.{List}
 use Rattle.qspi.specs.declared.bus.Reply.{Reply}
 use Rattle.qspi.proofs.Cases.{by_cases}
-use Rattle.frames.specs.Frame.{exchange_of}
-use Rattle.frames.specs.declared.frame.Exchanged.{Exchanged}
+use Rattle.qspi.specs.Frame.{exchange_of}
+use Rattle.qspi.specs.declared.frame.Exchanged.{Exchanged}
 use Rattle.spi_flash.specs.Settling as Settling
 use Rattle.spi_flash.specs.Loan.{Lent, ready_for, exchange_for}
 use Rattle.spi_flash.specs.Machine.{lent_as}

@@ -2,8 +2,8 @@
 use Rattle.std.specs.Prelude.{ℕ, true, false, ◌≡◌, List, length, Option, None}
 use Rattle.qspi.specs.Bus.{fits_of, on_bus}
 use Rattle.qspi.specs.declared.bus.Action.{Action}
-use Rattle.frames.specs.Frame.{action_of}
-use Rattle.frames.specs.declared.frame.Frame.{Frame}
+use Rattle.qspi.specs.Frame.{action_of}
+use Rattle.qspi.specs.declared.frame.Frame.{Frame}
 use Rattle.spi_flash.specs.Loan.{Lent, ready_for}
 use Rattle.spi_flash.specs.Shape.{Given, acts, refuses}
 use Rattle.spi_flash.specs.declared.error.FlashError.{FlashError}

@@ -5,7 +5,7 @@ use qspi::bytes;
 use qspi::command::SCRATCH_LEN;
 use std::io;
 use trace_case::advance;
-use trace_turns::budget;
+use trace_words::budget;
 
 // Arrays of fixed size below: there is no heap. As many as the C functions take, one by one.
 // One byte more than the longest text, to tell a longer one.

@@ -9,11 +9,11 @@ use Rattle.lines.specs.Text.{Text}
 use Rattle.flash.specs.Drive.{stepped_to}
 use Rattle.flash.specs.declared.state.Stepped.{Stepped}
 use Rattle.flash_calls.specs.declared.call.Kind.{Kind}
-use Rattle.flash_lent.specs.Lent.{asked_over}
+use Rattle.trace_case.specs.Lent.{asked_over}
 use Rattle.flash_turns.specs.Turn.{taken_to, turn_of}
 use Rattle.flash_turns.specs.declared.state.Turn.{Turn}
-use Rattle.trace_turns.specs.Budget.{budget_of}
-use Rattle.trace_turns.specs.Place.{over_of}
+use Rattle.trace_words.specs.Budget.{budget_of}
+use Rattle.trace_words.specs.Place.{over_of}
 use Rattle.trace_case.specs.Case.{Traced, start_of, traced_by, traced_to, answered_to, turn_after, turns_of, case_behind}
 use Rattle.trace_case.specs.declared.advance.Trace.{Trace}
 

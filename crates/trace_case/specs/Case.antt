@@ -5,15 +5,15 @@ use Rattle.lines.specs.Text.{Text, text_of}
 use Rattle.flash.specs.Drive.{AfterStep, fresh_of}
 use Rattle.flash.specs.declared.state.Stepped.{Stepped}
 use Rattle.flash_calls.specs.declared.call.Kind.{Kind}
-use Rattle.flash_lent.specs.Lent.{asked_over}
+use Rattle.trace_case.specs.Lent.{asked_over}
 use Rattle.flash_turns.specs.State.{begun_in}
 use Rattle.flash_turns.specs.Turn.{TurnTaken, turn_of}
 use Rattle.flash_turns.specs.declared.state.Turn.{Turn}
-use Rattle.dialect.specs.Settings.{none_of}
-use Rattle.dialect.specs.declared.settings.Settings.{Settings}
-use Rattle.trace_turns.specs.Budget.{budget_of}
-use Rattle.trace_turns.specs.Place as place
-use Rattle.trace_turns.specs.declared.place.Place.{Place}
+use Rattle.flash_turns.specs.Settings.{none_of}
+use Rattle.flash_turns.specs.declared.settings.Settings.{Settings}
+use Rattle.trace_words.specs.Budget.{budget_of}
+use Rattle.trace_words.specs.Place as place
+use Rattle.trace_words.specs.declared.place.Place.{Place}
 use Rattle.trace_case.specs.declared.advance.Trace.{Trace}
 
 abbrev pub trace_of : Stepped → Settings → Place → Trace

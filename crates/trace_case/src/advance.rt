@@ -3,16 +3,15 @@ ghost use Rattle.std.specs.Prelude.{◌≡◌};
 ghost use Rattle.lines.specs.Writing.{text_in, SameRoom};
 ghost use Rattle.trace_case.specs.Case.{start_of, traced_by, traced_to, turn_after};
 
-use dialect::settings;
-use dialect::settings::Settings;
+use crate::lent;
 use flash::drive;
 use flash::state::Stepped;
 use flash_calls::call::Kind;
-use flash_lent::lent;
+use flash_turns::settings::Settings;
 use flash_turns::state::Turn;
-use flash_turns::{state, turn};
+use flash_turns::{settings, state, turn};
 use lines::text::Writer;
-use trace_turns::place::Place;
+use trace_words::place::Place;
 
 #[derive(Clone, Copy)]
 pub struct Trace {

@@ -8,7 +8,7 @@ use crate::advance;
 use flash_calls::call::Kind;
 use lines::text::Writer;
 use qspi::command::SCRATCH_LEN;
-use trace_turns::budget;
+use trace_words::budget;
 
 // Turn after turn until the trace is over. Room, reply and out stay three parameters: they are the C functions' own.
 fn turns(kind: Kind, text: &[u8], room: &mut [u8], reply: &mut [u8], out: &mut Writer)

@@ -1,4 +1,0 @@
-pub mod Settings
-pub mod Words
-pub mod Heard
-pub mod Hears

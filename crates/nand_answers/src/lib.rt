@@ -1,4 +1,0 @@
-// What a call of SpiNandFlash answers, and its values as numbers.
-#![tactic(auto)]
-
-pub mod answer;

@@ -1,4 +1,0 @@
-// How each call of SpiNandFlash (nand/driver.rs) begins.
-#![tactic(auto)]
-
-pub mod opening;

@@ -1,4 +1,0 @@
-pub mod Setup
-pub mod Verdict
-pub mod Transfer
-pub mod BringUp

@@ -1,4 +1,0 @@
-pub mod Place
-pub mod Between
-pub mod Show
-pub mod Budget
