@@ -1,4 +1,6 @@
 pub mod Settle
 pub mod Call
 pub mod Step
+pub mod Next
+pub mod Wait
 pub mod Answer

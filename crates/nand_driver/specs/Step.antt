@@ -8,7 +8,7 @@ use Rattle.spi_flash.specs.Shape as Shape
 use Rattle.spi_nand.specs.declared.answer.Answer.{Answer}
 use Rattle.spi_nand.specs.declared.phase.Phase.{Phase}
 use Rattle.spi_nand.specs.declared.setup.Setup.{Setup}
-use Rattle.nand_next.specs.Next.{next_of}
+use Rattle.nand_driver.specs.Next.{next_of}
 use Rattle.nand_driver.specs.Settle.{SpiNandFlash, Stepped, then_as, nand_shape}
 
 -- what follows each transfer

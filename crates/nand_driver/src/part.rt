@@ -3,9 +3,9 @@ ghost use Rattle.std.specs.Prelude.{◌≡◌};
 ghost use Rattle.nand_driver.specs.Call.{nand_calls, not_built};
 ghost use Rattle.nand_driver.specs.Step.{nand_next};
 
+use crate::next;
 use machine::part::Part;
 use machine::state;
-use nand_next::next;
 use nand_steps::opening;
 use nand_steps::then::{Opening, Then};
 use qspi::frame::Outcome;

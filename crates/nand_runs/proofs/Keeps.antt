@@ -49,8 +49,8 @@ use Rattle.nand_steps.specs.Read.{read_from, read_then}
 use Rattle.nand_steps.specs.Block.{is_bad, erase_then, after_erase, erased_then, marker_then, fill_from}
 use Rattle.nand_steps.specs.Then.{Then}
 use Rattle.nand_steps.specs.Go.{go_to, end_with}
-use Rattle.nand_next.specs.Wait.{reset_then, resume_task, judge_task, wait_then, waiting_then}
-use Rattle.nand_next.specs.Next.{enabled_then, latched_then, enabling_then, identify_then, answered_then, after_phase, next_of}
+use Rattle.nand_driver.specs.Wait.{reset_then, resume_task, judge_task, wait_then, waiting_then}
+use Rattle.nand_driver.specs.Next.{enabled_then, latched_then, enabling_then, identify_then, answered_then, after_phase, next_of}
 use Rattle.flash_runs.proofs.Supplies.{Stays}
 use Rattle.nand_driver.specs.Settle.{then_as}
 use Rattle.nand_runs.proofs.Places.{decide, Valid}

@@ -8,7 +8,7 @@ use Rattle.spi_flash.specs.Shape as Shape
 use Rattle.spi_nor.specs.declared.answer.Answer.{Answer}
 use Rattle.spi_nor.specs.declared.phase.Phase.{Phase}
 use Rattle.spi_nor.specs.declared.setup.Setup.{Setup}
-use Rattle.nor_next.specs.Next.{next_of}
+use Rattle.nor_driver.specs.Next.{next_of}
 use Rattle.nor_driver.specs.Settle.{SpiNorFlash, Stepped, then_as, nor_shape}
 
 -- what follows each transfer

@@ -3,9 +3,9 @@ ghost use Rattle.std.specs.Prelude.{◌≡◌};
 ghost use Rattle.nor_driver.specs.Call.{nor_calls, not_built};
 ghost use Rattle.nor_driver.specs.Step.{nor_next};
 
+use crate::next;
 use machine::part::Part;
 use machine::state;
-use nor_next::next;
 use nor_steps::opening;
 use nor_steps::then::{Opening, Then};
 use qspi::frame::Outcome;

@@ -14,13 +14,13 @@ use Rattle.spi_nor.specs.Opcode.{timings_of}
 use Rattle.spi_nor.specs.Status.{busy_of, write_enabled_of, quad_enabled1_of, quad_enabled2_of, unprotected1_of, unprotected2_of}
 use Rattle.spi_nor.specs.Transfer.{place_of, chunk_of, page_of, task_operation, multiple_of, unit_size, step_kind, after_unit}
 use Rattle.qspi.specs.Bytes.{byte_of}
-use Rattle.nor_next.specs.Next.{after_phase}
+use Rattle.nor_driver.specs.Next.{after_phase}
 use Rattle.spi_flash.specs.Range.{range_in_bounds}
 use Rattle.nor_steps.specs.Register.{id_of, device_at, device_for, known_as, built_then, identified_then}
 use Rattle.nor_steps.specs.Read.{read_from}
 use Rattle.nor_steps.specs.Write.{program_from, verify_then, verified_then}
 use Rattle.nor_steps.specs.Go.{go_to, end_with}
-use Rattle.nor_next.specs.Wait.{latched_then, resume_task, wait_then, writing_then}
+use Rattle.nor_driver.specs.Wait.{latched_then, resume_task, wait_then, writing_then}
 use Rattle.nor_steps.specs.Erase.{erase_unit, erase_from}
 use Rattle.nor_steps.specs.Protection.{unprotect_first, unprotect_second}
 use Rattle.spi_nor.specs.Config.{in_bounds_of, from_jedec}

@@ -4,7 +4,7 @@ use Rattle.std.specs.Prelude.{Ok, Err}
 use Rattle.qspi.specs.Frame.{Outcome}
 use Rattle.flash_runs.proofs.Promises.{promises}
 use Rattle.flash_runs.proofs.Supplies.{Supplies}
-use Rattle.nor_next.specs.Next.{next_of}
+use Rattle.nor_driver.specs.Next.{next_of}
 use Rattle.spi_nor.specs.declared.phase.Phase.{Phase}
 use Rattle.spi_nor.specs.declared.setup.Setup.{Setup}
 use Rattle.nor_runs.specs.Run.{nor_driver, NorPromises}

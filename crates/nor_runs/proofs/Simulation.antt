@@ -23,13 +23,13 @@ use Rattle.spi_nor.specs.Status.{busy_of, write_enabled_of, quad_enabled1_of, qu
 use Rattle.spi_nor.specs.Command.{write_enable_command, read_status1_command, read_status2_command, read_id_command, read_unique_id_command}
 use Rattle.spi_nor.specs.Transfer.{place_of, chunk_of, page_of, task_transfer, task_operation, multiple_of, unit_size, step_kind, after_unit}
 use Rattle.qspi.specs.Bytes.{byte_of}
-use Rattle.nor_next.specs.Next.{after_phase, next_of}
+use Rattle.nor_driver.specs.Next.{after_phase, next_of}
 use Rattle.spi_flash.specs.Range.{range_in_bounds, span}
 use Rattle.spi_flash.specs.Number.{number_transfer}
 use Rattle.nor_steps.specs.Register.{id_of, known_as, built_then, identified_then}
 use Rattle.nor_steps.specs.Read.{read_from}
 use Rattle.nor_steps.specs.Write.{program_from, verify_then, verified_then}
-use Rattle.nor_next.specs.Wait.{latched_then, resume_task, wait_then, writing_then}
+use Rattle.nor_driver.specs.Wait.{latched_then, resume_task, wait_then, writing_then}
 use Rattle.nor_steps.specs.Erase.{erase_unit, erase_from}
 use Rattle.nor_steps.specs.Protection.{unprotect_first, unprotect_second}
 use Rattle.nor_runs.specs.Rust.{Nothing, busy_value, read-status1, read-status2, is-busy, wait-ready, write-enable, write-status1, write-status2, jedec-id, unique-id, quad-enabled, enable-quad, disable-quad, reading, read_back, page-program, writing, erase-unit, erasing, Unprotected, unprotect, quad-if, with-config}

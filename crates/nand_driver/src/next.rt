@@ -2,7 +2,7 @@
 ghost use Rattle.std.specs.Prelude.{◌≡◌};
 ghost use Rattle.spi_nand.specs.BringUp.{in_bring_up};
 ghost use Rattle.nand_steps.specs.Go.{look, reset};
-ghost use Rattle.nand_next.specs.Next.{write_then, load_page_then, start_erase, enabled_then, latched_then, enabling_then, identify_then, answered_then, after_phase, next_of};
+ghost use Rattle.nand_driver.specs.Next.{write_then, load_page_then, start_erase, enabled_then, latched_then, enabling_then, identify_then, answered_then, after_phase, next_of};
 
 use crate::wait;
 use nand_steps::then::Then;

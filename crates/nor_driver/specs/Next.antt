@@ -15,7 +15,7 @@ use Rattle.nor_steps.specs.Register.{id_of, identified_then, disable_first, disa
 use Rattle.nor_steps.specs.Protection.{unprotect_first}
 use Rattle.nor_steps.specs.Read.{read_from}
 use Rattle.nor_steps.specs.Write.{verified_then}
-use Rattle.nor_next.specs.Wait.{writing_then}
+use Rattle.nor_driver.specs.Wait.{writing_then}
 
 -- what follows a transfer that gave v
 unfoldable pub after_phase : Setup → Phase → ℕ → Then

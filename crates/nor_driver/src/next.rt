@@ -1,6 +1,6 @@
 // What follows each transfer: the Rust's calls, cut where they use the bus.
 ghost use Rattle.std.specs.Prelude.{◌≡◌};
-ghost use Rattle.nor_next.specs.Next.{after_phase, next_of};
+ghost use Rattle.nor_driver.specs.Next.{after_phase, next_of};
 
 use crate::wait;
 use nor_steps::then::Then;

@@ -29,7 +29,7 @@ use Rattle.nand_steps.specs.Page.{program_then}
 use Rattle.nand_steps.specs.Read.{piece_read_then}
 use Rattle.nand_steps.specs.Register.{id_of, identified_then, configure_then, check_configuration, unprotect_then, brought_up, disable_quad, quad_disabled}
 use Rattle.nand_steps.specs.Then.{Then}
-use Rattle.nand_next.specs.Wait.{waiting_then}
+use Rattle.nand_driver.specs.Wait.{waiting_then}
 
 -- ---- write_enable, and what it is for
 

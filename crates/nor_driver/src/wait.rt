@@ -1,8 +1,8 @@
 // A write to the part: its command behind write_enable, and wait_ready.
-// nand_next cuts its wait alike, over other phases: a trait of the five steps that differ is longer.
+// nand_driver cuts its wait alike, over other phases: a trait of the five steps that differ is longer.
 // A task and what it has waited stay two parameters: each function here would take a struct of the two apart at once.
 ghost use Rattle.std.specs.Prelude.{◌≡◌};
-ghost use Rattle.nor_next.specs.Wait.{latch_then, latched_then, resume_task, look_then, pause_then, wait_then, sent_then, looked_then, writing_then};
+ghost use Rattle.nor_driver.specs.Wait.{latch_then, latched_then, resume_task, look_then, pause_then, wait_then, sent_then, looked_then, writing_then};
 
 use nor_steps::then::Then;
 use nor_steps::{erase, go, protection, write};

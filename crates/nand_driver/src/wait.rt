@@ -1,8 +1,8 @@
 // wait_ready: the pauses and looks behind a command, and what they are for.
-// nor_next cuts its wait alike, over other phases: a trait of the five steps that differ is longer.
+// nor_driver cuts its wait alike, over other phases: a trait of the five steps that differ is longer.
 // A task and what it has waited stay two parameters: each function here would take a struct of the two apart at once.
 ghost use Rattle.std.specs.Prelude.{◌≡◌};
-ghost use Rattle.nand_next.specs.Wait.{reset_then, resume_task, judge_task, look_then, pause_then, wait_then, sent_then, looked_then, waiting_then};
+ghost use Rattle.nand_driver.specs.Wait.{reset_then, resume_task, judge_task, look_then, pause_then, wait_then, sent_then, looked_then, waiting_then};
 
 use nand_steps::then::Then;
 use nand_steps::{block, go, page, register};

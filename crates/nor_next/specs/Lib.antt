@@ -1,2 +1,0 @@
-pub mod Wait
-pub mod Next
