@@ -1,10 +1,10 @@
+pub mod Promises
+pub mod Refusals
+pub mod SameAsRust
+pub mod Shams
 pub mod Driver
 pub mod System
-pub mod Weight
 pub mod Reading
-pub mod Watch
 pub mod Scratch
-pub mod SameAsRust
-pub mod Refusals
-pub mod Promises
-pub mod Shams
+pub mod Watch
+pub mod Weight

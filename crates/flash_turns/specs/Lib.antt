@@ -1,9 +1,9 @@
-pub mod State
-pub mod Reading
-pub mod Giving
-pub mod Answering
 pub mod Turn
-pub mod Settings
-pub mod Words
-pub mod Heard
+pub mod Answering
+pub mod Giving
+pub mod Reading
+pub mod State
 pub mod Hears
+pub mod Heard
+pub mod Words
+pub mod Settings

@@ -1,5 +1,5 @@
-pub mod Run
 pub mod Promises
+pub mod Run
 pub mod Rust
 pub mod Program
 pub mod Bound

@@ -1,4 +1,4 @@
--- A call of the NOR driver over a tape (specs/Replay.antt of replay).
+-- A call of the NOR driver over a tape (specs/Replay.antt of tape).
 use Rattle.std.specs.Prelude.{ℕ, List}
 use Rattle.tape.specs.Replaying as Replaying
 use Rattle.tape.specs.Replaying.{Taped}

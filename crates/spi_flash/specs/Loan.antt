@@ -1,4 +1,4 @@
--- What a host lends at each step (document 01, "The host lends a scratch of 264 bytes or more").
+-- What a call takes of what a host lends at each step (document 01, "a buffer length altered during a call").
 use Rattle.std.specs.Prelude.{ℕ, Bool, true, false, List, length, ltb, eqb}
 use Rattle.qspi.specs.Choice.{pick}
 use Rattle.qspi.specs.Command.{scratch_least}

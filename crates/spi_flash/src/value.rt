@@ -1,4 +1,4 @@
-// A value by its place in a short list, 0 past the end.
+// The values of an answer as numbers, by their place: 0 past the last one.
 ghost use Rattle.std.specs.Prelude.{◌++◌, ◌≡◌, get_or, length};
 ghost use Rattle.spi_flash.specs.Value.{flag_value, setting_values};
 

@@ -3,6 +3,6 @@ pub mod Record
 pub mod Judge
 pub mod Records
 pub mod Reader
-pub mod Replaying
 pub mod Statements
+pub mod Replaying
 pub mod Replay

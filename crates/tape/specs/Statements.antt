@@ -1,4 +1,4 @@
--- What is proved of the definitions that the contracts cite.
+-- What is proved of tapes: of their judge, their records and their reader.
 use Rattle.std.specs.Prelude.{ℕ, ◌+◌, ◌≡◌, true, List, [], ◌∷◌, length, None}
 use Rattle.qspi.specs.Bytes.{AllBytes}
 use Rattle.tape.specs.Tape.{trailer_length, TapeRecord, WellFormed}

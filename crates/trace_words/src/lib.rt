@@ -1,5 +1,6 @@
 // Words of a case and lines of its trace that are the same for every driver: what a call's line says and lends, what answers an
-// action, and what is printed beside the actions. And where a trace stands in its text.
+// action, and what is printed beside the actions. And where a trace stands in its text, with the turns that
+// need no driver.
 #![tactic(auto)]
 
 pub mod between;
