@@ -32,8 +32,8 @@ fn print(
     out: &mut [u8; MOST],
 ) -> io::Result<()> {
     let n = case::traced(kind, text, room, reply, out);
-    streams::write_all(rt, bytes::delivered(out, n))?;
-    streams::write_all(rt, b"%\n")
+    rt.write_all(bytes::delivered(out, n))?;
+    rt.write_all(b"%\n")
 }
 
 // Prints the trace of one case.

@@ -34,7 +34,7 @@ fn main(rt: HostRuntime) -> io::Result<()> {
     for _ in 0..LINES_MOST {
         let mut line = Writer::new(&mut out);
         program::line(now, lent.scratch, &mut line);
-        streams::write_all(&rt, line.written())?;
+        rt.write_all(line.written())?;
         if program::over(now) {
             return Ok(());
         }

@@ -1,10 +1,10 @@
-// Bytes in from standard input and out to standard output.
+// Bytes in from standard input.
 #![tactic(auto)]
 
 ghost use Rattle.std.specs.Prelude.{◌≤◌, length, IfOk};
 
 use std::io;
-use std::io::{Read, Write};
+use std::io::Read;
 
 // Reads until the buffer is full or the input ends, and gives how many bytes were put at its start: a count, as read of std gives.
 pub fn read_full(rt: &impl Input, buf: &mut [u8]) -> io::Result<usize>
@@ -22,10 +22,4 @@ pub fn read_full(rt: &impl Input, buf: &mut [u8]) -> io::Result<usize>
         done += n;
     }
     Ok(done)
-}
-
-// Writes all of the bytes.
-pub fn write_all(rt: &impl Print, bytes: &[u8]) -> io::Result<()> {
-    let mut writer = io::writer(rt);
-    writer.write_all(bytes)
 }

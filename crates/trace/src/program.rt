@@ -36,7 +36,7 @@ fn print_case(
     for _ in 0..most {
         let mut written = Writer::new(out);
         trace = advance::advance(trace, text, &mut scratch, room, reply, &mut written);
-        streams::write_all(rt, written.written())?;
+        rt.write_all(written.written())?;
         if trace.place.is_over() {
             return Ok(());
         }
@@ -57,6 +57,7 @@ fn run<R: Input + Print>(
     print_case(rt, kind, bytes::delivered(input, n), room, reply, out)
 }
 
+// Without an ensures: what is printed no clause can say, since the library's own writes have none. The programs' stored output holds it.
 pub fn trace<R: Input + Print>(rt: &R, kind: Kind) -> io::Result<()> {
     let mut input = [0u8; INPUT];
     let mut room = [0u8; ROOM];
