@@ -21,7 +21,7 @@ use Rattle.spi_flash.specs.Machine.{Decision, more, well, bad, Config, machine, 
 use Rattle.spi_flash.proofs.Runs.{heard-view, first-delay, trail-asks, run-bound, run_ends}
 use Rattle.spi_flash.proofs.Reach.{reached}
 use Rattle.flash_runs.specs.Driver.{Left, Driver, takes_at, program_at, bound_at, actions_at, ends_at, run_at}
-use Rattle.flash_runs.specs.Promises.{ending_as, ended_as, EndsAs, ComesTo, EndsWell, Demand3}
+use Rattle.flash_runs.specs.WithinBound.{ending_as, ended_as, EndsAs, ComesTo, EndsWell, WithinBound}
 use Rattle.flash_runs.proofs.General.{Parts, Place, decide_next}
 use Rattle.flash_runs.proofs.Supplies.{Asks, Supplies, Known}
 use Rattle.flash_runs.proofs.Views.{shape, Opens, Nothing-begun, view, begun-opens, no_run, opens-run}
@@ -163,8 +163,8 @@ module _ {F C S A : Type 0} {driver : Driver F C S A} (known : Known driver) whe
               (ends-with C (decide_next parts) driver.values (takes_at driver c l) e.1 o.at (first_of o.first) (answering r.0 ls) (well-done e.1 e.0 _ _ (r.2.leads ls n w)));
         }
 
-  pub demand3 : Demand3 driver
-  demand3 = record {
+  pub within_bound : WithinBound driver
+  within_bound = record {
     bounded = never-passed;
     reached = λ flash c l small h. comes-to flash c l small (begun-opens known flash c l h);
     ends = λ flash c l es h fit long. run-has-ended flash c l es (begun-opens known flash c l h) fit long;

@@ -22,7 +22,7 @@ use Rattle.spi_flash.proofs.Performs.{first-shown}
 use Rattle.spi_flash.proofs.Select.{Raised, first-raised, ends-high}
 use Rattle.spi_flash.proofs.Unread.{buffer_reads, keeps-buffer}
 use Rattle.flash_runs.specs.Driver.{Left, takes_buffer, Driver, takes_at, program_at, run_at, flash_after}
-use Rattle.flash_runs.specs.Promises.{Demand1}
+use Rattle.flash_runs.specs.LentBytes.{LentBytes}
 use Rattle.flash_runs.specs.Reading.{bytes_read, ChangesRead, HoldsRead}
 use Rattle.flash_runs.specs.Scratch.{PutsOver}
 use Rattle.flash_runs.specs.Watch.{closed}
@@ -167,8 +167,8 @@ module _ {F C S A : Type 0} {driver : Driver F C S A} (known : Known driver) (fl
           rw (opens-run known flash o es) (steps (more o.first o.at) closed l l.buffer)
 
 module _ {F C S A : Type 0} {driver : Driver F C S A} (known : Known driver) where
-  pub demand1 : Demand1 driver
-  demand1 = record {
+  pub lent_bytes : LentBytes driver
+  lent_bytes = record {
     changes = changes known;
     holds = holds known;
     delivered = λ flash c l es own h buffer.

@@ -8,12 +8,12 @@ use Rattle.flash_runs.proofs.General.{Parts, Place}
 use Rattle.flash_runs.proofs.Supplies.{Is, Supplies, Known}
 use Rattle.flash_runs.proofs.Refusals.{refusals-keep}
 use Rattle.flash_runs.proofs.Judged.{refuses-just}
-use Rattle.flash_runs.proofs.SameAsRust.{demand2}
-use Rattle.flash_runs.proofs.Bills.{demand3}
-use Rattle.flash_runs.proofs.Lent.{demand1}
+use Rattle.flash_runs.proofs.SameAsRust.{same_as_rust}
+use Rattle.flash_runs.proofs.Bills.{within_bound}
+use Rattle.flash_runs.proofs.Lent.{lent_bytes}
 
 pub promises : {F C S P A : Type 0} (driver : Driver F C S A) (parts : Parts S P A C) (Valid : Place S P → Type 0) (Built : P → Type 0) (meaning : Place S P → ℕ → Prog (Left S A)) →
     Supplies driver parts Valid Built meaning → Is driver parts → Promises driver
 promises driver parts Valid Built meaning supplies is =
     let known : Known driver = record { P = _; parts = parts; Valid = Valid; Built = Built; meaning = meaning; supplies = supplies; is = is } in
-    record { refuses = refuses-just known; refusals = refusals-keep driver parts is; demand1 = demand1 known; demand2 = demand2 known; demand3 = demand3 known }
+    record { refuses = refuses-just known; refusals = refusals-keep driver parts is; lent_bytes = lent_bytes known; same_as_rust = same_as_rust known; within_bound = within_bound known }

@@ -17,7 +17,7 @@ use Rattle.spi_flash.specs.Run as Run
 use Rattle.spi_flash.specs.declared.error.FlashError.{FlashError}
 use Rattle.spi_flash.specs.declared.loan.Takes.{Takes}
 use Rattle.flash_runs.specs.Driver.{Left, Driver}
-use Rattle.flash_runs.specs.Promises.{RefusalsKeep}
+use Rattle.flash_runs.specs.Refusals.{RefusalsKeep}
 use Rattle.flash_runs.specs.System.{left_with}
 use Rattle.flash_runs.proofs.General as General
 use Rattle.flash_runs.proofs.General.{Then, Opening, constructing, telling, releasing, working, Parts, Job, Running, idle, busy, Flash, Stepped, plain, Step, settled, told, opened, freed, constructed, begun, opened_as, proceeds, answer_at, begin_at}

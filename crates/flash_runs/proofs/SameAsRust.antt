@@ -13,7 +13,7 @@ use Rattle.spi_flash.specs.OnBus.{program_on_bus, performed}
 use Rattle.spi_flash.specs.declared.loan.Takes.{Takes}
 use Rattle.spi_flash.proofs.Performs.{performs}
 use Rattle.flash_runs.specs.Driver.{Left, Sort, constructs, tells, releases, uses, Driver, sort_at, takes_at, program_at, steps_at}
-use Rattle.flash_runs.specs.SameAsRust.{Ready, Regular, rust_call, driver_of, left_by, driver_after, Turn, turn_steps, turn_after, Orderly, session, holding, rust_turn, rust_session, Demand2}
+use Rattle.flash_runs.specs.SameAsRust.{Ready, Regular, rust_call, driver_of, left_by, driver_after, Turn, turn_steps, turn_after, Orderly, session, holding, rust_turn, rust_session, SameAsRust}
 use Rattle.flash_runs.proofs.General.{Opening, constructing, telling, releasing, working, Parts, Flash, decide_next}
 use Rattle.flash_runs.proofs.Supplies.{OpensAs, Known}
 use Rattle.flash_runs.proofs.Runs.{same-call}
@@ -109,5 +109,5 @@ module _ {F C S A : Type 0} {driver : Driver F C S A} (known : Known driver) whe
       (left known flash x.call x.lent x.events h.0.usable
       ∙ ap (λ steps. driver_after (sort_at driver x.call x.lent) (driver_of driver flash) (left_by steps)) head))
 
-  pub demand2 : Demand2 driver
-  demand2 = record { same = same; left = left known; sessions = sessions }
+  pub same_as_rust : SameAsRust driver
+  same_as_rust = record { same = same; left = left known; sessions = sessions }

@@ -15,8 +15,8 @@ use Rattle.spi_flash.specs.Run.{Event, Answer, Fitting, answering, Lending, goes
 use Rattle.spi_flash.specs.Seen.{Did, told, SameData, Undisturbed}
 use Rattle.spi_flash.specs.declared.loan.Takes.{Takes}
 use Rattle.flash_runs.specs.Driver.{Left, Driver, takes_at, program_at, bound_at, run_at, steps_at}
-use Rattle.flash_runs.specs.Promises.{ComesTo}
-use Rattle.flash_runs.specs.SameAsRust.{Regular, Demand2}
+use Rattle.flash_runs.specs.WithinBound.{ComesTo}
+use Rattle.flash_runs.specs.SameAsRust.{Regular, SameAsRust}
 use Rattle.flash_runs.specs.Shams.{Asks, stepping, billing, always_gives, ForTheBus, ShamsFail}
 
 -- ---- a program that uses the bus gives out an action first
@@ -93,7 +93,7 @@ module _ {F C S A : Type 0} (driver : Driver F C S A) where
     gives_none (Run.refused e) h = refl
 
     -- the Rust gives out an action, the sham does not
-    caught : (g : Run.Given (Left S A)) → is_action g ≡ false → Demand2 (sham g) → ⊥
+    caught : (g : Run.Given (Left S A)) → is_action g ≡ false → SameAsRust (sham g) → ⊥
     caught g silent kept = true≢false (sym acts-first ∙ ap acts_first (sym (kept.same flash call l [] (regular g))) ∙ gives_none g silent)
 
   -- ---- bills

@@ -23,7 +23,7 @@ use Rattle.spi_flash.specs.declared.error.FlashError.{FlashError}
 use Rattle.spi_flash.specs.declared.loan.Takes.{Takes}
 use Rattle.qspi.proofs.Cases.{by_cases}
 use Rattle.flash_runs.specs.Driver.{Left, leaving, Sort, constructs, tells, releases, uses, works_on, Driver, sort_at, takes_at, program_at, run_at, steps_at}
-use Rattle.flash_runs.specs.Promises.{GivesAction, Begun}
+use Rattle.flash_runs.specs.WithinBound.{GivesAction, Begun}
 use Rattle.flash_runs.specs.SameAsRust.{Ready, Usable}
 use Rattle.flash_runs.proofs.General as General
 use Rattle.flash_runs.proofs.General.{Then, Opening, constructing, telling, releasing, working, Parts, job_of, Running, idle, busy, is_busy, Flash, flash_of, Place, place, decide, decide_next, Step, settled, told, opened, freed, constructed, begun, opened_as, general}

@@ -1,4 +1,6 @@
 pub mod Promises
+pub mod WithinBound
+pub mod LentBytes
 pub mod Refusals
 pub mod SameAsRust
 pub mod Shams

@@ -85,3 +85,11 @@ module _ {F C S A : Type 0} (driver : Driver F C S A) where
     pub replies : (flash : F) (call : C) (l : Lent) (es : List (Event C)) → driver.system.running flash ≡ false → (r : Reply) (bytes : List ℕ) (now : Lent) →
         refusal_in (driver.system.answer (flash_after driver flash call l es) r bytes now).given ≡
         reply_refusal (out_after none (run_at driver flash call l es)) (takes_at driver call l) now r (length bytes)
+
+  -- "keep every byte when a request is turned away": what is refused leaves the driver and every lent byte as they were, on every
+  -- state, forged ones too
+  pub record RefusalsKeep : Type 0 where
+    pub calls : (flash : F) (call : C) (l : Lent) (e : FlashError) → (driver.system.begin flash call l).given ≡ refused e →
+        ((driver.system.begin flash call l).flash ≡ flash) × ((driver.system.begin flash call l).left ≡ l)
+    pub replies : (flash : F) (r : Reply) (bytes : List ℕ) (l : Lent) (e : FlashError) → (driver.system.answer flash r bytes l).given ≡ refused e →
+        ((driver.system.answer flash r bytes l).flash ≡ flash) × ((driver.system.answer flash r bytes l).left ≡ l)

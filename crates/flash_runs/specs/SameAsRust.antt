@@ -101,7 +101,7 @@ module _ {F C S A : Type 0} (driver : Driver F C S A) where
 
   -- ---- the statement
 
-  pub record Demand2 : Type 0 where
+  pub record SameAsRust : Type 0 where
     -- "every action, result and delivered byte equals the Rust's on the same replies"
     pub same : (flash : F) (call : C) (l : Lent) (es : List (Event C)) → Regular flash call l es →
         told (steps_at driver flash call l es) ≡ rust_call (driver.setup flash) call l es

@@ -8,8 +8,8 @@ use Rattle.spi_flash.specs.Run.{Event, Given, ended, refused, System}
 use Rattle.spi_flash.specs.Seen.{told}
 use Rattle.spi_flash.specs.declared.error.FlashError.{FlashError}
 use Rattle.flash_runs.specs.Driver.{Left, Driver, takes_at, program_at, bound_at, steps_at}
-use Rattle.flash_runs.specs.Promises.{Begun, Demand3}
-use Rattle.flash_runs.specs.SameAsRust.{Usable, Regular, Demand2}
+use Rattle.flash_runs.specs.WithinBound.{Begun, WithinBound}
+use Rattle.flash_runs.specs.SameAsRust.{Usable, Regular, SameAsRust}
 
 -- a program that uses the bus
 abbrev pub Asks : {A : Type 0} → Prog A → Type 0
@@ -59,12 +59,12 @@ module _ {F C S A : Type 0} (driver : Driver F C S A) where
 
   pub record ShamsFail : Type 0 where
     -- "every request refused"
-    pub refusing : (e : FlashError) (flash : F) (call : C) (l : Lent) → ForTheBus flash call l → Demand2 (stepping (always_gives (refused e))) → ⊥
+    pub refusing : (e : FlashError) (flash : F) (call : C) (l : Lent) → ForTheBus flash call l → SameAsRust (stepping (always_gives (refused e))) → ⊥
     -- "success with no bus traffic", "one result for all"
-    pub claiming : (left : Left S A) (flash : F) (call : C) (l : Lent) → ForTheBus flash call l → Demand2 (stepping (always_gives (ended left))) → ⊥
+    pub claiming : (left : Left S A) (flash : F) (call : C) (l : Lent) → ForTheBus flash call l → SameAsRust (stepping (always_gives (ended left))) → ⊥
     -- "first page loaded, the rest claimed", "Timeout … before looking": what keeps demand 2 gives what the driver gives
-    pub other : (system : System F C (Left S A)) → Demand2 driver → Demand2 (stepping system) → (flash : F) (call : C) (l : Lent) (es : List (Event C)) →
+    pub other : (system : System F C (Left S A)) → SameAsRust driver → SameAsRust (stepping system) → (flash : F) (call : C) (l : Lent) (es : List (Event C)) →
         Regular driver flash call l es → Regular (stepping system) flash call l es → told (steps_at (stepping system) flash call l es) ≡ told (steps_at driver flash call l es)
     -- "a bill not summed from actions": no other bill is kept and reached
-    pub bills : (bill : S → C → ℕ → ℕ → ℕ) → Demand3 driver → Demand3 (billing bill) → (flash : F) (call : C) (l : Lent) → AllBytes l.given →
+    pub bills : (bill : S → C → ℕ → ℕ → ℕ) → WithinBound driver → WithinBound (billing bill) → (flash : F) (call : C) (l : Lent) → AllBytes l.given →
         ready_for (takes_at driver call l) l ≡ true → Begun driver flash call l → bound_at (billing bill) flash call l ≡ bound_at driver flash call l

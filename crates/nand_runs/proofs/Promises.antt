@@ -38,7 +38,7 @@ use Rattle.spi_nand.specs.Setup.{init_of}
 use Rattle.nand_runs.specs.Rust.{MAX-VERIFY-PAGE-SIZE, read-configuration, reset-and-identify, ensure-configuration, unprotect, bring-up, constructed, with-config}
 use Rattle.nand_runs.proofs.ProgramBounds.{program-bounds}
 use Rattle.nand_runs.proofs.SeenRuns.{read-seen}
-use Rattle.nand_runs.specs.Promises.{done_by, identification, BeginsIdentifying, AsRust, NandDemand3, NandPromises}
+use Rattle.nand_runs.specs.Promises.{done_by, identification, BeginsIdentifying, AsRust, ReadsAsAsked, NandPromises}
 use Rattle.nand_runs.specs.Run.{sort_of, nand_driver}
 use Rattle.nand_runs.proofs.Places.{parts, Valid}
 use Rattle.nand_runs.proofs.Keeps.{Built}
@@ -57,10 +57,10 @@ module _ (flash : SpiNandFlash) (call : Call) (l : Lent) (es : List (Event Call)
   own = rust_program flash.setup call (length l.buffer) (length l.given)
 
   same : large_page call ≡ false → told (steps_at nand_driver flash call l es) ≡ done_by own l es
-  same small = general.demand2.same flash call l es h ∙ ap (λ large. done_by (pick large refused-page own) l es) small
+  same small = general.same_as_rust.same flash call l es h ∙ ap (λ large. done_by (pick large refused-page own) l es) small
 
   large : large_page call ≡ true → told (steps_at nand_driver flash call l es) ≡ done_by refused-page l es
-  large big = general.demand2.same flash call l es h ∙ ap (λ x. done_by (pick x refused-page own) l es) big
+  large big = general.same_as_rust.same flash call l es h ∙ ap (λ x. done_by (pick x refused-page own) l es) big
 
 stops-identified : refused-page ≡ identification >>= (λ id. fail FlashError.NotSupported)
 unfolding refused-page ◌>>=◌ ◌>>◌
@@ -113,15 +113,15 @@ module _ (flash : SpiNandFlash) (offset : ℕ) (l : Lent) (es : List (Event Call
   seen : ReadSeen (run_at nand_driver flash (Call.Read offset) l es) geometry offset len
   seen = ⊎_elim (λ n. rw (no_run known flash {c = Call.Read offset} {l = l} n es) (nothing_seen geometry offset len)) opened (view known flash (Call.Read offset) l)
 
-demand3 : NandDemand3
+within_bound : ReadsAsAsked
 unfolding sort_of
-demand3 = record {
-  bills = general.demand3;
+within_bound = record {
+  bills = general.within_bound;
   read = seen;
-  read_ends = λ flash offset l small begun. general.demand3.ends_well flash (Call.Read offset) l small begun refl;
-  changes = λ flash offset l es. general.demand1.changes flash (Call.Read offset) l es refl;
-  holds = λ flash offset l es. general.demand1.holds flash (Call.Read offset) l es refl;
+  read_ends = λ flash offset l small begun. general.within_bound.ends_well flash (Call.Read offset) l small begun refl;
+  changes = λ flash offset l es. general.lent_bytes.changes flash (Call.Read offset) l es refl;
+  holds = λ flash offset l es. general.lent_bytes.holds flash (Call.Read offset) l es refl;
 }
 
 pub nand-promises : NandPromises
-nand-promises = record { general = general; as_rust = as-rust; demand3 = demand3 }
+nand-promises = record { general = general; as_rust = as-rust; within_bound = within_bound }

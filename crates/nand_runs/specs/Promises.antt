@@ -10,7 +10,8 @@ use Rattle.spi_flash.specs.Run.{Event}
 use Rattle.spi_flash.specs.Seen.{Did, told, replies_of, Undisturbed}
 use Rattle.spi_flash.specs.declared.error.FlashError.{FlashError}
 use Rattle.flash_runs.specs.Driver.{run_at, steps_at}
-use Rattle.flash_runs.specs.Promises.{Begun, EndsWell, Demand3, Promises}
+use Rattle.flash_runs.specs.WithinBound.{Begun, EndsWell, WithinBound}
+use Rattle.flash_runs.specs.Promises.{Promises}
 use Rattle.flash_runs.specs.Reading.{ChangesRead, HoldsRead}
 use Rattle.flash_runs.specs.SameAsRust.{Regular}
 use Rattle.spi_nand.specs.declared.config.NandJedecId.{NandJedecId}
@@ -49,10 +50,10 @@ pub record AsRust : Type 0 where
 
 -- ---- demand 3
 
-pub record NandDemand3 : Type 0 where
+pub record ReadsAsAsked : Type 0 where
   -- "the delay summed over the actions given out is at most the call's bill in the documents, and for each call some replies reach its
   -- bill"; every call ends
-  pub bills : Demand3 nand_driver
+  pub bills : WithinBound nand_driver
   -- "the loads so far are always the first of those P pages, ascending, once each, also when it fails. Each byte read was asked for at
   -- its column, after its page's verdict and before the next load"; a read ends well "only after all P, none with ECC verdict 2, and then
   -- has asked 10×P to 400,000×P microseconds". Of a read of nothing, or out of range, there is no run
@@ -73,4 +74,4 @@ pub record NandPromises : Type 0 where
   -- refusals, demands 1 and 2, the bills
   pub general : Promises nand_driver
   pub as_rust : AsRust
-  pub demand3 : NandDemand3
+  pub within_bound : ReadsAsAsked

@@ -1,0 +1,63 @@
+-- The delays and actions of a call over every run: it never asks more than its bound, some replies bring it there, it comes to an end and
+-- on some replies ends well (docs/SPECIFICATION.md, "Waits and bounds" and "Runs").
+use Rattle.std.specs.Prelude.{ℕ, ◌≤◌, true, ◌≡◌, List, [], ◌∷◌, length}
+use Rattle.qspi.specs.Bytes.{AllBytes}
+use Rattle.spi_flash.specs.Ending.{Ending, goes, ends_with, ends_by}
+use Rattle.spi_flash.specs.Loan.{Lent}
+use Rattle.spi_flash.specs.Run.{Event, Entry, Given, act, ended, failed, refused, delay_asked, Fitting, HasEnded, Answer, RealReplies, answering, Lending}
+use Rattle.flash_runs.specs.Driver.{Left, Driver, takes_at, bound_at, actions_at, ends_at, run_at}
+
+-- a call has begun when it gives out its first action
+abbrev pub GivesAction : {A : Type 0} → Given A → Type 0
+GivesAction (act shown) = Unit {0}
+GivesAction (ended a) = ⊥
+GivesAction (failed e) = ⊥
+GivesAction (refused e) = ⊥
+
+-- how a step has ended the call: document 01's number and values; with an action or a refusal the call goes on
+abbrev pub ending_as : {S A : Type 0} → (A → List ℕ) → Given (Left S A) → Ending
+ending_as values (act shown) = goes
+ending_as values (ended left) = ends_with 0 (values left.answer)
+ending_as values (failed error) = ends_by error
+ending_as values (refused error) = goes
+
+-- the call has ended so
+abbrev pub ended_as : Ending → Ending → Type 0 → Type 0
+ended_as goes e later = later
+ended_as (ends_with number values) e later = ends_with number values ≡ e
+
+unfoldable pub EndsAs : {C S A : Type 0} → (A → List ℕ) → Ending → List (Entry C (Left S A)) → Type 0
+EndsAs values e [] = ⊥
+EndsAs values e (x ∷ xs) = ended_as (ending_as values x.given) e (EndsAs values e xs)
+
+module _ {F C S A : Type 0} (driver : Driver F C S A) where
+  abbrev pub Begun : F → C → Lent → Type 0
+  Begun flash call l = GivesAction (driver.system.begin flash call l).given
+
+  -- replies, and that they come to b whatever scratch and buffer are lent with the caller's data
+  pub record ComesTo (flash : F) (call : C) (l : Lent) (b : ℕ) : Type 0 where
+    pub replies : List Answer
+    pub real : RealReplies replies
+    pub fits : (ls : List Lent) → length ls ≡ length replies → Lending (takes_at driver call l) l.given ls →
+        Fitting (run_at driver flash call l (answering replies ls))
+    pub asks : (ls : List Lent) → length ls ≡ length replies → Lending (takes_at driver call l) l.given ls →
+        delay_asked (run_at driver flash call l (answering replies ls)) ≡ b
+
+  -- replies on which the call ends well: "0 is success"
+  pub record EndsWell (flash : F) (call : C) (l : Lent) : Type 0 where
+    pub values : List ℕ
+    pub replies : List Answer
+    pub real : RealReplies replies
+    pub ends : (ls : List Lent) → length ls ≡ length replies → Lending (takes_at driver call l) l.given ls →
+        EndsAs driver.values (ends_with 0 values) (run_at driver flash call l (answering replies ls))
+
+  pub record WithinBound : Type 0 where
+    -- "the delay summed over the actions given out is at most the call's bill in the documents"
+    pub bounded : (flash : F) (call : C) (l : Lent) (es : List (Event C)) → delay_asked (run_at driver flash call l es) ≤ bound_at driver flash call l
+    -- "and for each call some replies reach its bill"
+    pub reached : (flash : F) (call : C) (l : Lent) → AllBytes l.given → Begun flash call l → ComesTo flash call l (bound_at driver flash call l)
+    -- "comes to an end": on every list of fitting replies as long as the bound on its actions
+    pub ends : (flash : F) (call : C) (l : Lent) (es : List (Event C)) → Begun flash call l →
+        Fitting (run_at driver flash call l es) → actions_at driver flash call l ≤ length es → HasEnded (run_at driver flash call l es)
+    -- every begun call ends well on some replies, but those that cannot
+    pub ends_well : (flash : F) (call : C) (l : Lent) → AllBytes l.given → Begun flash call l → ends_at driver flash call l ≡ true → EndsWell flash call l

@@ -1,0 +1,5 @@
+use Rattle.spi_flash.proofs.Waiting.{wait-in-general}
+use Rattle.spi_flash.proofs.wait_in_general.Goals as goal
+
+pub returns : goal.returns
+returns c = wait-in-general
