@@ -26,7 +26,7 @@ use Rattle.spi_flash.specs.declared.error.FlashError.{FlashError}
 use Rattle.spi_flash.specs.declared.loan.Takes.{Takes}
 use Rattle.qspi.proofs.Cases.{by_cases}
 use Rattle.flash_runs.specs.Driver.{Left, Sort, takes_of, works_on, Driver, sort_at, takes_at, flash_after}
-use Rattle.flash_runs.specs.Refusals.{rest_refusal, RefusedAs, awaits, out_then, out_after, reply_refusal, refusal_in, RefusesJust}
+use Rattle.flash_runs.specs.Refusals.{rest_refusal, RefusedAs, awaits, out_then, is_out, out_after, reply_refusal, refusal_in, ToldByHistory, RefusesJust}
 use Rattle.flash_runs.specs.System.{left_with}
 use Rattle.flash_runs.proofs.General as General
 use Rattle.flash_runs.proofs.General.{Then, Opening, constructing, telling, releasing, working, Parts, Job, Running, idle, busy, is_busy, Flash, flash_of, Stepped, plain, Step, settled, told, opened, freed, constructed, begun, opened_as, afterwards, general}
@@ -175,7 +175,31 @@ module _ {S P A C : Type 0} (parts : Parts S P A C) (in_bounds : S → Bool) (ta
   rest-judged s u n idle h es r bytes now = rw (rest-state parts in_bounds s u n es) refl
   rest-judged s u n (busy job) h es r bytes now = absurd h
 
+  -- a state that awaits an action is busy
+  awaiting-busy : (running : Running P) (before : Option Shown) → Awaiting running before → is_busy running ≡ is_out before
+  awaiting-busy idle none h = refl
+  awaiting-busy idle (some shown) h = absurd h
+  awaiting-busy (busy job) none h = absurd h
+  awaiting-busy (busy job) (some shown) h = refl
+
+  rest-idle : (setup : S) (built : Bool) (delivered : ℕ) (running : Running P) → Awaiting running none → (es : List (Event C)) →
+      is_busy (state_after system (at setup built delivered running) es).running ≡ false
+  rest-idle s u n idle h es = rw (rest-state parts in_bounds s u n es) refl
+  rest-idle s u n (busy job) h es = absurd h
+
   -- what follows a beginning that has given g
+  module _ (c : C) (l : Lent) (m : Step S P A) (h : AwaitingBy none m) (es : List (Event C)) where
+    unbegun-idle : out_then m.given none ≡ none → is_busy (state_after system m.flash es).running ≡ false
+    unbegun-idle is = rest-idle m.flash.setup m.flash.built m.flash.delivered m.flash.running (subst (Awaiting m.flash.running) is h) es
+
+    begun-running : (g : Run.Given (Left S A)) → m.given ≡ g →
+        is_busy (state_after system m.flash es).running ≡ is_out (out_after none (begun_with system g c l m es))
+    unfolding out_after
+    begun-running (Run.act shown) is = awaiting-busy _ _ (after es m.flash (out_then m.given none) h)
+    begun-running (Run.ended a) is = unbegun-idle (ap (λ g. out_then g none) is)
+    begun-running (Run.failed e) is = unbegun-idle (ap (λ g. out_then g none) is)
+    begun-running (Run.refused e) is = unbegun-idle (ap (λ g. out_then g none) is)
+
   module _ (c : C) (l : Lent) (m : Step S P A) (h : AwaitingBy none m) (es : List (Event C)) (r : Reply) (bytes : List ℕ) (now : Lent) where
     abbrev last : Flash S P
     last = state_after system m.flash es
@@ -263,6 +287,22 @@ module _ {F C S A : Type 0} {driver : Driver F C S A} (known : Known driver) whe
       AwaitingBy parts driver.in_bounds (takes_at driver c l) none ((general parts driver.in_bounds).begin (flash_of setup built delivered running) c l)
   awaiting-at s u n idle c l free = begun-awaiting s u n c l
   awaiting-at s u n (busy job) c l free = absurd (true≢false free)
+
+  pub told-by-history : ToldByHistory driver
+  unfolding run_of
+  told-by-history = record {
+    at_rest = known.is.at_rest;
+    not_built = known.is.not_built;
+    running = λ flash c l es free.
+        let view = viewed driver parts known.is in
+        let system = general parts driver.in_bounds in
+        let m = system.begin (view flash) c l in
+        known.is.runs (flash_after driver flash c l es)
+        ∙ ap (λ f. is_busy f.running) (same-state driver parts known.is flash c l es)
+        ∙ begun-running parts driver.in_bounds (takes_at driver c l) c l m
+        (awaiting-at (driver.setup flash) (driver.built flash) (known.is.count flash) (known.is.running flash) c l (sym (known.is.runs flash) ∙ free)) es m.given refl
+        ∙ ap (λ xs. is_out (out_after none xs)) (sym (same-run driver parts known.is flash c l es));
+  }
 
   pub refuses-just : RefusesJust driver
   unfolding run_of

@@ -7,7 +7,7 @@ use Rattle.flash_runs.specs.Promises.{Promises}
 use Rattle.flash_runs.proofs.General.{Parts, Place}
 use Rattle.flash_runs.proofs.Supplies.{Is, Supplies, Known}
 use Rattle.flash_runs.proofs.Refusals.{refusals-keep}
-use Rattle.flash_runs.proofs.Judged.{refuses-just}
+use Rattle.flash_runs.proofs.Judged.{told-by-history, refuses-just}
 use Rattle.flash_runs.proofs.SameAsRust.{same_as_rust}
 use Rattle.flash_runs.proofs.Bills.{within_bound}
 use Rattle.flash_runs.proofs.Lent.{lent_bytes}
@@ -16,4 +16,4 @@ pub promises : {F C S P A : Type 0} (driver : Driver F C S A) (parts : Parts S P
     Supplies driver parts Valid Built meaning → Is driver parts → Promises driver
 promises driver parts Valid Built meaning supplies is =
     let known : Known driver = record { P = _; parts = parts; Valid = Valid; Built = Built; meaning = meaning; supplies = supplies; is = is } in
-    record { refuses = refuses-just known; refusals = refusals-keep driver parts is; lent_bytes = lent_bytes known; same_as_rust = same_as_rust known; within_bound = within_bound known }
+    record { history = told-by-history known; refuses = refuses-just known; refusals = refusals-keep driver parts is; lent_bytes = lent_bytes known; same_as_rust = same_as_rust known; within_bound = within_bound known }

@@ -1,7 +1,7 @@
 -- What a driver must supply, and then all promises hold of it (`promises` of proofs/Promises.antt): that it
 -- is the general driver (`Is`), and what its calls' programs come to (`Supplies`).
 use Prim.Native.Nat.{ℕ}
-use mathlib.Core.Bool.{Bool, true}
+use mathlib.Core.Bool.{Bool, true, false}
 use mathlib.Core.Path.{◌≡◌, sym, subst}
 use mathlib.Core.List.{List}
 use lib.ListN.{length, take}
@@ -48,6 +48,9 @@ pub record Is {F C S P A : Type 0} (driver : Driver F C S A) (parts : Parts S P 
   pub answers : (flash : F) (r : Reply) (bytes : List ℕ) (l : Lent) →
       Alike (view_of driver count running) (driver.system.answer flash r bytes l) ((general parts driver.in_bounds).answer (view_of driver count running flash) r bytes l)
   pub runs : (flash : F) → driver.system.running flash ≡ is_busy (running flash)
+  -- before any construction
+  pub at_rest : driver.system.running driver.fresh ≡ false
+  pub not_built : driver.built driver.fresh ≡ false
   pub shows : (flash : F) (buffer : List ℕ) → driver.delivered flash buffer ≡ take (count flash) buffer
 
 -- ---- how a call begins

@@ -50,7 +50,8 @@ pub record Driver (F C S A : Type 0) : Type 0 where
   -- what the struct holds, and whether there is one: the last construction begun has succeeded
   pub setup : F → S
   pub built : F → Bool
-  -- what a driver holds before any construction
+  -- a driver before any construction, and what it holds
+  pub fresh : F
   pub blank : S
   -- "shows the delivered beginning of the caller's buffer"
   pub delivered : F → List ℕ → List ℕ

@@ -1,6 +1,6 @@
 -- Who is turned away, and why (document 01, "Who can cause a refusal"): the calls and replies that the driver refuses are these and no
 -- others, so that a reply that fits is always taken.
-use Rattle.std.specs.Prelude.{ℕ, Bool, false, ◌&&◌, ◌≡◌, List, [], ◌∷◌, ltb, length}
+use Rattle.std.specs.Prelude.{ℕ, Bool, true, false, ◌&&◌, ◌≡◌, List, [], ◌∷◌, ltb, length}
 use Rattle.std.proofs.Math.Option.{Option, none, some}
 use Rattle.qspi.specs.Bus.{fits_at}
 use Rattle.qspi.specs.Choice.{pick}
@@ -52,6 +52,10 @@ out_then (ended a) before = none
 out_then (failed e) before = none
 out_then (refused e) before = before
 
+abbrev pub is_out : Option Shown → Bool
+is_out none = false
+is_out (some shown) = true
+
 -- the action that is awaited after these steps
 unfoldable pub out_after : {C A : Type 0} → Option Shown → List (Entry C A) → Option Shown
 out_after before [] = before
@@ -77,6 +81,15 @@ module _ {F C S A : Type 0} (driver : Driver F C S A) where
   call_refusal flash call l =
       pick (driver.system.running flash) (some FlashError.OutOfTurn)
       (rest_refusal (sort_at driver call l) (driver.built flash) (length l.scratch) (bounded_at driver flash call l))
+
+  -- what a state says of itself is told by what has happened (docs/SPECIFICATION.md, "Refusals and numbers")
+  pub record ToldByHistory : Type 0 where
+    -- before any construction no call is running, and there is no driver
+    pub at_rest : driver.system.running driver.fresh ≡ false
+    pub not_built : driver.built driver.fresh ≡ false
+    -- a call that was begun at rest is running, whatever the events, just while an action of its run is out
+    pub running : (flash : F) (call : C) (l : Lent) (es : List (Event C)) → driver.system.running flash ≡ false →
+        driver.system.running (flash_after driver flash call l es) ≡ is_out (out_after none (run_at driver flash call l es))
 
   pub record RefusesJust : Type 0 where
     -- a call, on every state, in the order 13, 14, 12, before the Rust's own tests

@@ -24,6 +24,7 @@ module _ {F C S A : Type 0} (driver : Driver F C S A) where
         system = system;
         setup = driver.setup;
         built = driver.built;
+        fresh = driver.fresh;
         blank = driver.blank;
         delivered = driver.delivered;
         sort = driver.sort;

@@ -22,5 +22,7 @@ nand-is = record {
   begins = begins-alike nand_shape nand-faithful nand_calls nand_next;
   answers = answers-alike nand_shape nand-faithful nand_calls nand_next;
   runs = λ flash. refl;
+  at_rest = refl;
+  not_built = refl;
   shows = λ flash buffer. refl;
 }

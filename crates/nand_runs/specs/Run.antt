@@ -9,7 +9,7 @@ use Rattle.spi_nand.specs.Answer.{answer_values}
 use Rattle.spi_nand.specs.declared.answer.Answer.{Answer}
 use Rattle.spi_nand.specs.declared.call.Call.{Call}
 use Rattle.spi_nand.specs.declared.setup.Setup.{Setup}
-use Rattle.nand_driver.specs.Call.{fresh_setup, nand_calls, begin_of}
+use Rattle.nand_driver.specs.Call.{fresh_setup, not_built, nand_calls, begin_of}
 use Rattle.nand_driver.specs.Settle.{nand_shape}
 use Rattle.nand_driver.specs.Step.{step_of, delivered_part}
 use Rattle.nand_driver.specs.Settle.{SpiNandFlash}
@@ -59,7 +59,8 @@ nand_driver =
       system = nand;
       setup = λ flash. flash.setup;
       built = λ flash. flash.built;
-      blank = fresh_setup single_config;
+      fresh = not_built;
+      blank = not_built.setup;
       delivered = delivered_part;
       sort = sort_of;
       in_bounds = nand_calls.in_bounds;

@@ -22,5 +22,7 @@ nor-is = record {
   begins = begins-alike nor_shape nor-faithful nor_calls nor_next;
   answers = answers-alike nor_shape nor-faithful nor_calls nor_next;
   runs = λ flash. refl;
+  at_rest = refl;
+  not_built = refl;
   shows = λ flash buffer. refl;
 }

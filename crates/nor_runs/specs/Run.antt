@@ -58,6 +58,7 @@ nor_driver = record {
   system = nor;
   setup = λ flash. flash.setup;
   built = λ flash. flash.built;
+  fresh = not_built;
   blank = not_built.setup;
   delivered = delivered_part;
   sort = sort_of;
