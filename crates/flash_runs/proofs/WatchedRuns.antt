@@ -48,7 +48,7 @@ module _ {Z : Type 0} (w : Watcher Z) (Q : Z → Type 0) where
   Onwards z given (Advanced.Over o) later = Q z × Concludes w Q z o later
 
   abbrev Advances : Z → Stage → Transfer → Outcome → (Z → ℕ → Type 0) → Reply → List ℕ → List ℕ → Type 0
-  Advances z stage t o later r bytes given = Onwards (w.hears (data_at true r bytes) z) given (advanced_at (frame_at t stage o) r bytes given) later
+  Advances z stage t o later r bytes given = Onwards (w.hears (data_at true r given) (data_at true r bytes) z) given (advanced_at (frame_at t stage o) r bytes given) later
 
   module _ (later : Z → ℕ → Type 0) (z : Z) (bytes given : List ℕ) where
     abbrev fresh : Outcome
@@ -164,7 +164,7 @@ module _ (C : Type 0) {S A : Type 0} (Valid : S → Type 0) (next : S → Outcom
     f = frame_at t stage o
 
     abbrev heard : Z
-    heard = w.hears (data_at true r bytes) z
+    heard = w.hears (data_at true r l.given) (data_at true r bytes) z
 
     abbrev after : Advanced → Moved (Config S) A
     after a =

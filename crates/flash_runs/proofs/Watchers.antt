@@ -13,7 +13,7 @@ use Rattle.flash_runs.specs.Watch.{Watcher, sees, watched}
 -- ---- two watchers at once
 
 abbrev pub both : {Y Z : Type 0} → Watcher Y → Watcher Z → Watcher (Y × Z)
-both v w = record { gives = λ shown x. (v.gives shown x.0, w.gives shown x.1); hears = λ bytes x. (v.hears bytes x.0, w.hears bytes x.1) }
+both v w = record { gives = λ shown x. (v.gives shown x.0, w.gives shown x.1); hears = λ given bytes x. (v.hears given bytes x.0, w.hears given bytes x.1) }
 
 module _ {Y Z C A : Type 0} (v : Watcher Y) (w : Watcher Z) where
   both-sees : (event : Event C) (given : Given A) (left : Lent) (y : Y) (z : Z) →
@@ -54,7 +54,7 @@ behind-mine bytes (b ∷ new) = refl
 
 module _ (reads : List ℕ → Bool) where
   abbrev pub reader : Watcher Got
-  reader = record { gives = λ shown z. got (mine_after reads shown z.mine) z.bytes; hears = λ new z. got z.mine (behind z.mine z.bytes new) }
+  reader = record { gives = λ shown z. got (mine_after reads shown z.mine) z.bytes; hears = λ given new z. got z.mine (behind z.mine z.bytes new) }
 
   behind-data : (mine : Bool) (r : Reply) (bytes new : List ℕ) → behind mine bytes (data_at true r new) ≡ bytes ++ data_at mine r new
   behind-data mine Reply.Done bytes new = sym (append-nil bytes)

@@ -23,7 +23,7 @@ use Rattle.flash_runs.specs.Watch.{Watcher}
 module _ {Z : Type 0} (w : Watcher Z) (Q : Z → Type 0) where
   -- a reply without data
   abbrev pub hush : Z → Z
-  hush z = w.hears [] z
+  hush z = w.hears [] [] z
 
   -- an action is given out
   abbrev pub Gives : Shown → Z → (Z → Type 0) → Type 0
@@ -47,7 +47,7 @@ module _ {Z : Type 0} (w : Watcher Z) (Q : Z → Type 0) where
   -- the data are any bytes of the length asked for
   abbrev pub BehindRead : Z → ℕ → Sink → (Z → ℕ → Type 0) → Type 0
   BehindRead z n sink later =
-      Breaks (hush z) × ((bytes given : List ℕ) → length bytes ≡ n → Closes (w.hears bytes z) (Ok (value_of sink bytes given)) later)
+      Breaks (hush z) × ((bytes given : List ℕ) → length bytes ≡ n → Closes (w.hears given bytes z) (Ok (value_of sink bytes given)) later)
 
   abbrev pub BehindPayload : Z → Transfer → (Z → ℕ → Type 0) → Type 0
   BehindPayload z Transfer.Raise later = ⊥

@@ -1,5 +1,5 @@
--- What is seen of a run from outside, step by step: a watcher sees the bytes of the actions given out and the data of the replies, and
--- passes over what is refused (document 01: "these give out no action, and their bytes count nowhere").
+-- What is seen of a run from outside, step by step: a watcher sees the bytes of the actions given out, the data of the replies, and the
+-- caller's data lent beside them. It passes over what is refused (docs/SPECIFICATION.md, "Runs").
 use Rattle.std.specs.Prelude.{ℕ, true, List, [], ◌∷◌}
 use Rattle.qspi.specs.Shown.{Shown, low, high, write, read, quad_read, quad_write, delay}
 use Rattle.spi_flash.specs.Run.{Event, reply, call, Given, act, ended, failed, refused, Entry}
@@ -11,12 +11,12 @@ use Rattle.flash_runs.specs.Reading.{data_at}
 pub record Watcher (Z : Type 0) : Type 0 where
   -- an action is given out
   pub gives : Shown → Z → Z
-  -- the reply to the action that was out has come, with its data
-  pub hears : List ℕ → Z → Z
+  -- the reply to the action that was out has come: of a data reply, the caller's data lent beside it, and its own
+  pub hears : (given bytes : List ℕ) → Z → Z
 
 module _ {Z : Type 0} (w : Watcher Z) where
   abbrev pub hearing : {C : Type 0} → Event C → Z → Z
-  hearing (reply r bytes l) z = w.hears (data_at true r bytes) z
+  hearing (reply r bytes l) z = w.hears (data_at true r l.given) (data_at true r bytes) z
   hearing (call c l) z = z
 
   abbrev pub giving : {A : Type 0} → Given A → Z → Z

@@ -194,4 +194,4 @@ heard_as (cache column page) bytes s = with_reads (recorded page column bytes s.
 -- ---- the watcher
 
 abbrev pub observer : Watcher Sight
-observer = record { gives = given_out; hears = λ bytes s. heard_as s.awaited bytes (answered s) }
+observer = record { gives = given_out; hears = λ given bytes s. heard_as s.awaited bytes (answered s) }
