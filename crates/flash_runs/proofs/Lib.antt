@@ -24,3 +24,5 @@ pub mod WatchedRuns
 pub mod Watchers
 pub mod Least
 pub mod Shams
+pub mod AtOnce
+pub mod Contents

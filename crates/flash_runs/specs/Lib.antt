@@ -9,4 +9,5 @@ pub mod System
 pub mod Reading
 pub mod Scratch
 pub mod Watch
+pub mod Contents
 pub mod Weight
