@@ -26,3 +26,4 @@ pub mod Least
 pub mod Shams
 pub mod AtOnce
 pub mod Contents
+pub mod NoRun

@@ -23,4 +23,5 @@ pub mod SeenCalls
 pub mod SeenRead
 pub mod LeastDelay
 pub mod SeenRuns
+pub mod SeenSteps
 pub mod Shams

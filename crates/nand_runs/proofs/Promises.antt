@@ -11,7 +11,7 @@ use Rattle.qspi.specs.Choice.{pick}
 use Rattle.spi_flash.specs.Loan.{Lent}
 use Rattle.qspi.specs.declared.transfer.Transfer.{Transfer}
 use Rattle.spi_flash.specs.Prog.{Prog, ret, fail, ask, ◌>>=◌, ◌>>◌, refuse}
-use Rattle.spi_flash.specs.Run.{Event}
+use Rattle.spi_flash.specs.Run.{Event, Entry, delay_asked}
 use Rattle.spi_flash.specs.Seen.{told}
 use Rattle.spi_flash.specs.declared.error.FlashError.{FlashError}
 use Rattle.spi_flash.proofs.Laws.{bind_assoc}
@@ -33,11 +33,12 @@ use Rattle.spi_nand.specs.declared.setup.Setup.{Setup}
 use Rattle.nand_driver.specs.Settle.{SpiNandFlash}
 use Rattle.nand_runs.specs.Bound.{delay_bound}
 use Rattle.nand_runs.specs.Program.{Left, rust_program, large_page, refused-page}
-use Rattle.nand_runs.specs.ReadSeen.{touched, ReadSeen}
+use Rattle.nand_runs.specs.ReadSeen.{ReadSeen}
 use Rattle.spi_nand.specs.Setup.{init_of}
 use Rattle.nand_runs.specs.Rust.{MAX-VERIFY-PAGE-SIZE, read-configuration, reset-and-identify, ensure-configuration, unprotect, bring-up, constructed, with-config}
 use Rattle.nand_runs.proofs.ProgramBounds.{program-bounds}
 use Rattle.nand_runs.proofs.SeenRuns.{read-seen}
+use Rattle.nand_runs.proofs.SeenSteps.{quiet-seen, steps-seen}
 use Rattle.nand_runs.specs.Promises.{done_by, identification, BeginsIdentifying, AsRust, ReadsAsAsked, NandPromises}
 use Rattle.nand_runs.specs.Run.{sort_of, nand_driver}
 use Rattle.nand_runs.proofs.Places.{parts, Valid}
@@ -83,17 +84,7 @@ as-rust = record {
   identifies = λ flash config b d. identifies flash.setup config b d;
 }
 
--- ---- demand 3
-
--- what has no run was not seen
-nothing_seen : (g : NandGeometry) (offset len : ℕ) → ReadSeen {C = Call} {A = Left} [] g offset len
-unfolding watched bytes_read Succeeded
-nothing_seen g offset len = record {
-  loads = record { rest = touched g offset len; whole = refl };
-  reads = refl;
-  in_order = refl;
-  whole = λ e. absurd e;
-}
+-- ---- the delays, and what a read does on the bus
 
 module _ (flash : SpiNandFlash) (offset : ℕ) (l : Lent) (es : List (Event Call)) where
   abbrev len : ℕ
@@ -102,7 +93,10 @@ module _ (flash : SpiNandFlash) (offset : ℕ) (l : Lent) (es : List (Event Call
   abbrev geometry : NandGeometry
   geometry = flash.setup.geometry
 
-  opened : Opens known (shape known flash) (Call.Read offset) l → ReadSeen (run_at nand_driver flash (Call.Read offset) l es) geometry offset len
+  abbrev run : List (Entry Call Left)
+  run = run_at nand_driver flash (Call.Read offset) l es
+
+  opened : Opens known (shape known flash) (Call.Read offset) l → ReadSeen run geometry offset len
   unfolding sort_of rust_program delay_bound
   opened o =
       rw (opens-run known flash o es)
@@ -110,18 +104,23 @@ module _ (flash : SpiNandFlash) (offset : ℕ) (l : Lent) (es : List (Event Call
       o.first o.at o.valid (leaving flash.setup Answer.Done) o.program
       (program-bounds.bounded flash.setup o.bounds (Call.Read offset) len (length l.given)) (Call.Read offset) l es)
 
-  seen : ReadSeen (run_at nand_driver flash (Call.Read offset) l es) geometry offset len
-  seen = ⊎_elim (λ n. rw (no_run known flash {c = Call.Read offset} {l = l} n es) (nothing_seen geometry offset len)) opened (view known flash (Call.Read offset) l)
+  no-run-seen : (xs : List (Entry Call Left)) → xs ≡ [] → ReadSeen xs geometry offset len
+  unfolding watched bytes_read delay_asked Succeeded
+  no-run-seen xs e = rw e (quiet-seen geometry offset len [] refl refl refl (λ s. absurd s))
 
-within_bound : ReadsAsAsked
+  seen : ReadSeen run geometry offset len
+  seen = ⊎_elim (λ n. no-run-seen run (no_run known flash {c = Call.Read offset} {l = l} n es)) opened (view known flash (Call.Read offset) l)
+
+reads-as-asked : ReadsAsAsked nand_driver
 unfolding sort_of
-within_bound = record {
+reads-as-asked = record {
   bills = general.within_bound;
-  read = seen;
+  read = λ flash offset l es free. steps-seen flash offset l es free (seen flash offset l es);
+  read_runs = seen;
   read_ends = λ flash offset l small begun. general.within_bound.ends_well flash (Call.Read offset) l small begun refl;
   changes = λ flash offset l es. general.lent_bytes.changes flash (Call.Read offset) l es refl;
   holds = λ flash offset l es. general.lent_bytes.holds flash (Call.Read offset) l es refl;
 }
 
 pub nand-promises : NandPromises
-nand-promises = record { general = general; as_rust = as-rust; within_bound = within_bound }
+nand-promises = record { general = general; as_rust = as-rust; reads_as_asked = reads-as-asked }

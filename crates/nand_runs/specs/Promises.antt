@@ -6,17 +6,19 @@ use Rattle.qspi.specs.declared.transfer.Transfer.{Transfer}
 use Rattle.spi_flash.specs.Loan.{Lent}
 use Rattle.spi_flash.specs.OnBus.{program_on_bus, performed}
 use Rattle.spi_flash.specs.Prog.{Prog, fail, ◌>>=◌, ◌>>◌, transfer}
-use Rattle.spi_flash.specs.Run.{Event}
+use Rattle.spi_flash.specs.Run.{Event, Entry}
 use Rattle.spi_flash.specs.Seen.{Did, told, replies_of, Undisturbed}
 use Rattle.spi_flash.specs.declared.error.FlashError.{FlashError}
-use Rattle.flash_runs.specs.Driver.{run_at, steps_at}
+use Rattle.flash_runs.specs.Driver.{Driver, run_at, steps_at}
 use Rattle.flash_runs.specs.WithinBound.{Begun, EndsWell, WithinBound}
 use Rattle.flash_runs.specs.Promises.{Promises}
 use Rattle.flash_runs.specs.Reading.{ChangesRead, HoldsRead}
 use Rattle.flash_runs.specs.SameAsRust.{Regular}
 use Rattle.spi_nand.specs.declared.config.NandJedecId.{NandJedecId}
 use Rattle.spi_nand.specs.declared.config.SpiNandConfig.{SpiNandConfig}
+use Rattle.spi_nand.specs.declared.answer.Answer.{Answer}
 use Rattle.spi_nand.specs.declared.call.Call.{Call}
+use Rattle.spi_nand.specs.declared.setup.Setup.{Setup}
 use Rattle.nand_driver.specs.Settle.{SpiNandFlash}
 use Rattle.nand_runs.specs.Observer.{reads_cache}
 use Rattle.nand_runs.specs.Program.{Left, rust_program, large_page}
@@ -48,30 +50,35 @@ pub record AsRust : Type 0 where
       told (steps_at nand_driver flash call l es) ≡ done_by (identification >>= (λ id. fail FlashError.NotSupported)) l es
   pub identifies : (flash : SpiNandFlash) (config : SpiNandConfig) (b d : ℕ) → BeginsIdentifying (rust_program flash.setup (Call.WithConfig config) b d)
 
--- ---- demand 3
+-- ---- the delays, and what a read does on the bus
 
-pub record ReadsAsAsked : Type 0 where
-  -- "the delay summed over the actions given out is at most the call's bill in the documents, and for each call some replies reach its
-  -- bill"; every call ends
-  pub bills : WithinBound nand_driver
-  -- "the loads so far are always the first of those P pages, ascending, once each, also when it fails. Each byte read was asked for at
-  -- its column, after its page's verdict and before the next load"; a read ends well "only after all P, none with ECC verdict 2, and then
-  -- has asked 10×P to 400,000×P microseconds". Of a read of nothing, or out of range, there is no run
-  pub read : (flash : SpiNandFlash) (offset : ℕ) (l : Lent) (es : List (Event Call)) →
-      ReadSeen (run_at nand_driver flash (Call.Read offset) l es) flash.setup.geometry offset (length l.buffer)
-  -- "Every such read, once begun, ends well on some replies"
-  pub read_ends : (flash : SpiNandFlash) (offset : ℕ) (l : Lent) → AllBytes l.given → Begun nand_driver flash (Call.Read offset) l →
-      EndsWell nand_driver flash (Call.Read offset) l
-  -- "In the caller's buffer its steps change only the places of the bytes read so far, whatever the replies"
-  pub changes : (flash : SpiNandFlash) (offset : ℕ) (l : Lent) (es : List (Event Call)) → ChangesRead reads_cache false 0 (run_at nand_driver flash (Call.Read offset) l es)
-  -- "if nobody else writes there, the buffer holds those bytes at their places and its old bytes elsewhere"
-  pub holds : (flash : SpiNandFlash) (offset : ℕ) (l : Lent) (es : List (Event Call)) → Undisturbed l.buffer (run_at nand_driver flash (Call.Read offset) l es) →
-      HoldsRead reads_cache false l.buffer [] (run_at nand_driver flash (Call.Read offset) l es)
+-- of any driver of the NAND's calls
+module _ {F : Type 0} (driver : Driver F Call Setup Answer) where
+  abbrev pub run_of_read : F → ℕ → Lent → List (Event Call) → List (Entry Call Left)
+  run_of_read flash offset l es = run_at driver flash (Call.Read offset) l es
+
+  -- docs/SPECIFICATION.md, "Waits and bounds" and "Reads on the bus"
+  pub record ReadsAsAsked : Type 0 where
+    -- no call asks more than its bound, some replies bring it there, and every call ends
+    pub bills : WithinBound driver
+    -- what is seen of a read: over its steps on a driver at rest, an end at once among them, so that no success comes without its traffic;
+    -- and over its run on any driver
+    pub read : (flash : F) (offset : ℕ) (l : Lent) (es : List (Event Call)) → driver.system.running flash ≡ false →
+        ReadSeen (steps_at driver flash (Call.Read offset) l es) (driver.setup flash).geometry offset (length l.buffer)
+    pub read_runs : (flash : F) (offset : ℕ) (l : Lent) (es : List (Event Call)) →
+        ReadSeen (run_of_read flash offset l es) (driver.setup flash).geometry offset (length l.buffer)
+    -- a read that has begun ends well on some replies
+    pub read_ends : (flash : F) (offset : ℕ) (l : Lent) → AllBytes l.given → Begun driver flash (Call.Read offset) l → EndsWell driver flash (Call.Read offset) l
+    -- in the caller's buffer only the places of the bytes read so far change, whatever the replies
+    pub changes : (flash : F) (offset : ℕ) (l : Lent) (es : List (Event Call)) → ChangesRead reads_cache false 0 (run_of_read flash offset l es)
+    -- where nobody else writes, the buffer holds those bytes at their places, and its old bytes elsewhere
+    pub holds : (flash : F) (offset : ℕ) (l : Lent) (es : List (Event Call)) → Undisturbed l.buffer (run_of_read flash offset l es) →
+        HoldsRead reads_cache false l.buffer [] (run_of_read flash offset l es)
 
 -- ---- all of them
 
 pub record NandPromises : Type 0 where
-  -- refusals, demands 1 and 2, the bills
+  -- what both drivers promise
   pub general : Promises nand_driver
   pub as_rust : AsRust
-  pub within_bound : ReadsAsAsked
+  pub reads_as_asked : ReadsAsAsked nand_driver
