@@ -25,3 +25,4 @@ pub mod LeastDelay
 pub mod SeenRuns
 pub mod SeenSteps
 pub mod Shams
+pub mod Chip

@@ -108,7 +108,7 @@ module _ (flash : SpiNandFlash) (offset : ℕ) (l : Lent) (es : List (Event Call
   unfolding watched bytes_read delay_asked Succeeded
   no-run-seen xs e = rw e (quiet-seen geometry offset len [] refl refl refl (λ s. absurd s))
 
-  seen : ReadSeen run geometry offset len
+  pub seen : ReadSeen run geometry offset len
   seen = ⊎_elim (λ n. no-run-seen run (no_run known flash {c = Call.Read offset} {l = l} n es)) opened (view known flash (Call.Read offset) l)
 
 reads-as-asked : ReadsAsAsked nand_driver

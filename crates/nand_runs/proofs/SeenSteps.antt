@@ -85,7 +85,7 @@ loop-asks flash offset n m e =
     (λ some. rw some (then-asks (page-read flash (page_at flash.geometry (place_of offset 0))) _ (page-asks flash _)))
     (λ none. let z = ltb-false 0 (suc n) none in absurd (omega arith)))
 
-read-at-once : (flash : Setup) (offset len : ℕ) (a b : Left) → (read flash offset len >> ret a) ≡ ret b → len ≡ 0
+pub read-at-once : (flash : Setup) (offset len : ℕ) (a b : Left) → (read flash offset len >> ret a) ≡ ret b → len ≡ 0
 unfolding read reading refuse ◌>>=◌ ◌>>◌ is_ret
 read-at-once flash offset zero a b h = refl
 read-at-once flash offset (suc n) a b h =

@@ -1,4 +1,5 @@
 pub mod Promises
+pub mod Chip
 pub mod Run
 pub mod Rust
 pub mod Program

@@ -47,10 +47,10 @@ judged_page (waiting page) = none
 judged_page (waited page) = none
 judged_page (judged page) = some page
 
--- what the action that is out asks for: status, or bytes of the cache from a column on, with the page if its verdict had come
+-- what the action that is out asks for: status, or bytes of the cache from a column on, with the load as it stood
 pub data Awaited : Type 0 where
   other status : Awaited
-  cache : (column : ℕ) (page : Option ℕ) → Awaited
+  cache : (column : ℕ) (load : Load) → Awaited
 
 -- a byte that was read, and where
 pub record ReadByte : Type 0 where
@@ -105,22 +105,22 @@ abbrev pub with_load : Option ℕ → List ℕ → List ℕ
 with_load none pages = pages
 with_load (some page) pages = pages ++ page ∷ []
 
-abbrev pub read_awaits : List ℕ → Option ℕ → Awaited
-read_awaits command page = pick (asks_status command) status (pick (reads_cache command) (cache (column_of command) page) other)
+abbrev pub read_awaits : List ℕ → Load → Awaited
+read_awaits command load = pick (asks_status command) status (pick (reads_cache command) (cache (column_of command) load) other)
 
 abbrev pub awaited_by : Shown → Sight → Awaited
 awaited_by low s = other
 awaited_by high s = other
 awaited_by (write bytes) s = other
-awaited_by (read n) s = read_awaits (command_in s.frame) (judged_page s.load)
-awaited_by (quad_read command tclqv margin n) s = cache (column_of command) (judged_page s.load)
+awaited_by (read n) s = read_awaits (command_in s.frame) s.load
+awaited_by (quad_read command tclqv margin n) s = cache (column_of command) s.load
 awaited_by (quad_write command payload) s = other
 awaited_by (delay us) s = other
 
 abbrev pub no_cache : Awaited → Bool
 no_cache other = true
 no_cache status = true
-no_cache (cache column page) = false
+no_cache (cache column load) = false
 
 abbrev pub given_out : Shown → Sight → Sight
 given_out shown s =
@@ -189,7 +189,7 @@ answered s =
 abbrev pub heard_as : Awaited → List ℕ → Sight → Sight
 heard_as other bytes s = s
 heard_as status bytes s = looked bytes s
-heard_as (cache column page) bytes s = with_reads (recorded page column bytes s.reads) s
+heard_as (cache column load) bytes s = with_reads (recorded (judged_page load) column bytes s.reads) s
 
 -- ---- the watcher
 

@@ -1,10 +1,18 @@
 //! What holds of the NAND driver over whole runs: specs/ and proofs/, and a function for each theorem.
 #![tactic(auto)]
 
+ghost use Rattle.nand_runs.specs.Chip.{DeliversTheChip};
 ghost use Rattle.nand_runs.specs.Promises.{NandPromises};
+ghost use Rattle.nand_runs.specs.Run.{nand_driver};
 
 /// Over every run of the NAND driver: who is refused and why, what happens to lent bytes, that every action, result and delivered
 /// byte is the Rust's but for one listed difference, that no call asks more delay than its bound, and what a read shows on the bus.
 pub fn nand_promises()
     ensures { NandPromises }
+{}
+
+/// Whatever the chip holds: where it answers each read of its cache with what it holds at the place that the bytes on the bus asked
+/// for, a read delivers just the chip's bytes from its offset on, at every step and at a good end.
+pub fn nand_delivers_the_chip()
+    ensures { DeliversTheChip nand_driver }
 {}
