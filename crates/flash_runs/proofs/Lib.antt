@@ -27,3 +27,4 @@ pub mod Shams
 pub mod AtOnce
 pub mod Contents
 pub mod NoRun
+pub mod WatchedCalls

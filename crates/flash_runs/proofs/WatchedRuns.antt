@@ -125,7 +125,7 @@ module _ (C : Type 0) {S A : Type 0} (Valid : S → Type 0) (next : S → Outcom
   Watches z xs = Q (watched w z xs) × (Succeeded xs → E (watched w z xs))
 
   -- after the end nothing more is seen
-  rest-sees : (es : List (Event C)) (z : Z) → watched w z (entries rest es) ≡ z
+  pub rest-sees : (es : List (Event C)) (z : Z) → watched w z (entries rest es) ≡ z
   unfolding goes_on watched
   rest-sees [] z = refl
   rest-sees (call c l ∷ es) z = refl
