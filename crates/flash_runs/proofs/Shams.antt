@@ -2,22 +2,29 @@
 use Prim.Native.Nat.{ℕ, suc, ◌≤◌}
 use native.Mathlib.Omega.{arith}
 use mathlib.Core.Bool.{Bool, true, false, true≢false}
-use mathlib.Core.Path.{◌≡◌, refl, ap, sym, ◌∙◌}
+use mathlib.Core.Path.{◌≡◌, refl, ap, sym, ◌∙◌, subst}
 use mathlib.Core.List.{List, [], ◌∷◌}
+use mathlib.Core.Option.{Option, none}
 use lib.ListN.{length}
+use Rattle.qspi.specs.Bytes.{AllBytes}
+use Rattle.qspi.specs.Command.{scratch_least}
+use Rattle.qspi.specs.Shown.{Shown}
 use Rattle.qspi.specs.declared.transfer.Body.{Body}
 use Rattle.qspi.specs.declared.transfer.Transfer.{Transfer}
 use Rattle.spi_flash.specs.Loan.{Lent, ready_for}
 use Rattle.spi_flash.specs.OnBus.{◌>>=◌, ◌>>◌, reading, framed, framed_then, on_bus, program_on_bus, performed}
 use Rattle.spi_flash.specs.Prog.{Prog, ret, fail, ask}
 use Rattle.spi_flash.specs.Run as Run
-use Rattle.spi_flash.specs.Run.{Event, Answer, Fitting, answering, Lending, goes_on, call_of, delay_asked}
+use Rattle.spi_flash.specs.Ending.{Ending, ends_with}
+use Rattle.spi_flash.specs.Run.{Event, Moved, System, Answer, Fitting, answering, Lending, at_once, goes_on, begun_with, run_of, call_of, delay_asked}
 use Rattle.spi_flash.specs.Seen.{Did, told, SameData, Undisturbed}
 use Rattle.spi_flash.specs.declared.loan.Takes.{Takes}
-use Rattle.flash_runs.specs.Driver.{Left, Driver, takes_at, program_at, bound_at, run_at, steps_at}
-use Rattle.flash_runs.specs.WithinBound.{ComesTo}
-use Rattle.flash_runs.specs.SameAsRust.{Regular, SameAsRust}
-use Rattle.flash_runs.specs.Shams.{Asks, stepping, billing, always_gives, ForTheBus, ShamsFail}
+use Rattle.flash_runs.specs.Driver.{Left, constructs, works_on, Driver, sort_at, takes_at, program_at, bound_at, run_at, steps_at, flash_after}
+use Rattle.flash_runs.specs.Promises.{Promises}
+use Rattle.flash_runs.specs.Refusals.{out_then, is_out, out_after, ToldByHistory}
+use Rattle.flash_runs.specs.SameAsRust.{Regular, rust_call, SameAsRust}
+use Rattle.flash_runs.specs.Shams.{Asks, Subject, in_place, billing, Refuses, Succeeds, ForTheBus, ShamsFail}
+use Rattle.flash_runs.specs.WithinBound.{GivesAction, Begun, ending_as, ended_as, EndsAs, ComesTo, WithinBound}
 
 -- ---- a program that uses the bus gives out an action first
 
@@ -57,44 +64,192 @@ again-lends : (replies : List Answer) (takes : Takes) (l : Lent) → ready_for t
 again-lends [] takes l ready = tt
 again-lends (a ∷ rest) takes l ready = (ready, refl, again-lends rest takes l ready)
 
-module _ {F C S A : Type 0} (driver : Driver F C S A) where
-  -- ---- at once
+-- ---- a call at rest
 
+module _ {F C S A : Type 0} (driver : Driver F C S A) where
+  -- no call that the Rust takes to the bus is without an action
   module _ (flash : F) (call : C) (l : Lent) (bus : ForTheBus driver flash call l) where
     acts-first : acts_first (performed (program_on_bus l.given (program_at driver (driver.setup flash) call l)) [] l.buffer) ≡ true
     acts-first = first-acts l.given l.buffer (program_at driver (driver.setup flash) call l) bus.asks
 
-    abbrev sham : Run.Given (Left S A) → Driver F C S A
-    sham g = stepping driver (always_gives driver g)
+    abbrev move : Moved F (Left S A)
+    move = driver.system.begin flash call l
 
-    abbrev steps : Run.Given (Left S A) → List (Run.Entry C (Left S A))
-    steps g = steps_at (sham g) flash call l []
+    abbrev steps : List (Run.Entry C (Left S A))
+    steps = steps_at driver flash call l []
 
-    taken : (g : Run.Given (Left S A)) → Fitting (steps g) × SameData l.given (steps g) × Undisturbed l.buffer (steps g)
-    unfolding call_of goes_on Fitting SameData Undisturbed
-    taken (Run.act shown) = (tt, (refl, tt), (refl, tt))
-    taken (Run.ended a) = (tt, (refl, tt), (refl, tt))
-    taken (Run.failed e) = (tt, (refl, tt), (refl, tt))
-    taken (Run.refused e) = (tt, (refl, tt), (refl, tt))
+    abbrev opens : Run.Given (Left S A) → List (Run.Entry C (Left S A))
+    opens g = record { event = Run.call call l; given = at_once g; left = move.left } ∷ []
 
-    regular : (g : Run.Given (Left S A)) → Regular (sham g) flash call l []
-    regular g = record {
-      usable = record { idle = bus.usable.idle; ready = bus.usable.ready; bounds = bus.usable.bounds };
-      fitting = (taken g).0;
-      same_data = (taken g).1;
-      undisturbed = (taken g).2;
-    }
+    is-opened : (g : Run.Given (Left S A)) → move.given ≡ g → steps ≡ opens g
+    unfolding call_of goes_on
+    is-opened g is = ap opens is
 
-    gives_none : (g : Run.Given (Left S A)) → is_action g ≡ false → acts_first (told (steps g)) ≡ false
-    unfolding call_of goes_on told
-    gives_none (Run.act shown) h = h
-    gives_none (Run.ended a) h = refl
-    gives_none (Run.failed e) h = refl
-    gives_none (Run.refused e) h = refl
+    regular-as : (g : Run.Given (Left S A)) → Fitting (opens g) × SameData l.given (opens g) × Undisturbed l.buffer (opens g)
+    unfolding Fitting SameData Undisturbed
+    regular-as (Run.act shown) = (tt, (refl, tt), (refl, tt))
+    regular-as (Run.ended a) = (tt, (refl, tt), (refl, tt))
+    regular-as (Run.failed e) = (tt, (refl, tt), (refl, tt))
+    regular-as (Run.refused e) = (tt, (refl, tt), (refl, tt))
+
+    regular : Regular driver flash call l []
+    regular =
+        let e = is-opened move.given refl in
+        let r = regular-as move.given in
+        record { usable = bus.usable; fitting = rw e r.0; same_data = rw e r.1; undisturbed = rw e r.2 }
+
+    gives-none : (g : Run.Given (Left S A)) → is_action g ≡ false → acts_first (told (opens g)) ≡ false
+    unfolding told
+    gives-none (Run.act shown) h = h
+    gives-none (Run.ended a) h = refl
+    gives-none (Run.failed e) h = refl
+    gives-none (Run.refused e) h = refl
 
     -- the Rust gives out an action, the sham does not
-    caught : (g : Run.Given (Left S A)) → is_action g ≡ false → SameAsRust (sham g) → ⊥
-    caught g silent kept = true≢false (sym acts-first ∙ ap acts_first (sym (kept.same flash call l [] (regular g))) ∙ gives_none g silent)
+    caught : SameAsRust driver → (g : Run.Given (Left S A)) → move.given ≡ g → is_action g ≡ false → ⊥
+    caught kept g is quiet =
+        true≢false
+        (sym acts-first
+        ∙ ap acts_first (sym (kept.same flash call l [] regular))
+        ∙ ap (λ xs. acts_first (told xs)) (is-opened g is)
+        ∙ gives-none g quiet)
+
+    begun-as : SameAsRust driver → (g : Run.Given (Left S A)) → move.given ≡ g → GivesAction g
+    begun-as kept (Run.act shown) is = tt
+    begun-as kept (Run.ended a) is = caught kept (Run.ended a) is refl
+    begun-as kept (Run.failed e) is = caught kept (Run.failed e) is refl
+    begun-as kept (Run.refused e) is = caught kept (Run.refused e) is refl
+
+    pub has-begun : SameAsRust driver → Begun driver flash call l
+    has-begun kept = begun-as kept move.given refl
+
+-- ---- two systems that are held against the same
+
+-- what both keep, they tell alike
+pub told-alike : {F C S A : Type 0} (driver sham : Driver F C S A) → SameAsRust driver → SameAsRust sham → (flash : F) (call : C) (l : Lent) (es : List (Event C)) →
+    Regular driver flash call l es → Regular sham flash call l es →
+    rust_call driver (driver.setup flash) call l es ≡ rust_call sham (sham.setup flash) call l es → told (steps_at sham flash call l es) ≡ told (steps_at driver flash call l es)
+told-alike driver sham kept other flash call l es r s e = other.same flash call l es s ∙ sym e ∙ sym (kept.same flash call l es r)
+
+-- ---- a construction
+
+-- a construction that the Rust takes to the bus, whatever was there before, and that can end well
+pub record Constructible {F C S A : Type 0} (driver : Driver F C S A) (call : C) (l : Lent) : Type 0 where
+  pub fresh : S
+  pub sorted : sort_at driver call l ≡ constructs fresh
+  pub long : scratch_least ≤ length l.scratch
+  pub ready : ready_for (takes_at driver call l) l ≡ true
+  pub inside : driver.in_bounds fresh ≡ true
+  pub small : AllBytes l.given
+  pub asks : (held : S) → Asks (program_at driver held call l)
+  pub can : (held : S) → driver.can_end held call (length l.buffer) (length l.given) ≡ true
+
+-- what a driver before any construction can be asked for
+constructing : {F C S A : Type 0} (driver : Driver F C S A) (call : C) (l : Lent) → Constructible driver call l → ToldByHistory driver → ForTheBus driver driver.fresh call l
+constructing driver call l c history = record {
+  usable = record {
+    idle = history.at_rest;
+    ready = rw c.sorted c.long;
+    bounds = subst (λ x. driver.in_bounds (works_on x (driver.setup driver.fresh)) ≡ true) (sym c.sorted) c.inside;
+  };
+  asks = c.asks (driver.setup driver.fresh);
+}
+
+-- ---- a call that has ended has no action out
+
+module _ {F C S A : Type 0} (system : System F C (Left S A)) (values : A → List ℕ) (e : Ending) where
+  abbrev Stops : F → Option Shown → Type 0
+  Stops flash before = (es : List (Event C)) × (out_after before (goes_on system flash es) ≡ none)
+
+  module _ (a : Answer) (replies : List Answer) (l : Lent) (ls : List Lent) (before : Option Shown) (m : Moved F (Left S A))
+      (further : (before : Option Shown) → EndsAs values e (goes_on system m.flash (answering replies ls)) → Stops m.flash before) where
+    abbrev StopsBy : Type 0
+    StopsBy = (es : List (Event C)) × (out_after (out_then m.given before) (goes_on system m.flash es) ≡ none)
+
+    over : out_then m.given before ≡ none → StopsBy
+    unfolding goes_on out_after
+    over is = ([], is)
+
+    at : (g : Run.Given (Left S A)) → m.given ≡ g → ended_as (ending_as values g) e (EndsAs values e (goes_on system m.flash (answering replies ls))) → StopsBy
+    at (Run.act shown) is h = further (out_then m.given before) h
+    at (Run.ended left) is h = over (ap (λ g. out_then g before) is)
+    at (Run.failed error) is h = over (ap (λ g. out_then g before) is)
+    at (Run.refused error) is h = further (out_then m.given before) h
+
+  stops : (replies : List Answer) (ls : List Lent) (flash : F) (before : Option Shown) → EndsAs values e (goes_on system flash (answering replies ls)) → Stops flash before
+  unfolding EndsAs goes_on out_after
+  stops [] ls flash before h = absurd h
+  stops (a ∷ replies) [] flash before h = absurd h
+  stops (a ∷ replies) (l ∷ ls) flash before h =
+      let m = system.answer flash a.kind a.bytes l in
+      let r = at a replies l ls before m (λ b k. stops replies ls m.flash b k) m.given refl h in
+      (Run.reply a.kind a.bytes l ∷ r.0, r.1)
+
+-- ---- all of them
+
+module _ {F C S A : Type 0} (driver : Driver F C S A) (G : Type 0) (call : C) (l : Lent) (c : Constructible driver call l) where
+  module _ (sham : Subject G C S A) where
+    abbrev held : Driver G C S A
+    held = in_place driver sham
+
+    constructible : Constructible held call l
+    constructible = record {
+      fresh = c.fresh;
+      sorted = c.sorted;
+      long = c.long;
+      ready = c.ready;
+      inside = c.inside;
+      small = c.small;
+      asks = c.asks;
+      can = c.can;
+    }
+
+    -- it gives out an action with a construction
+    begins : ToldByHistory held → SameAsRust held → Begun held sham.fresh call l
+    begins history kept = has-begun held sham.fresh call l (constructing held call l constructible history) kept
+
+    refuses-none : {B : Type 0} (g : Run.Given B) → Refuses g → GivesAction g → ⊥
+    refuses-none (Run.act shown) h k = h
+    refuses-none (Run.ended a) h k = k
+    refuses-none (Run.failed e) h k = k
+    refuses-none (Run.refused e) h k = k
+
+    claims-none : {B : Type 0} (g : Run.Given B) → Succeeds g → GivesAction g → ⊥
+    claims-none (Run.act shown) h k = h
+    claims-none (Run.ended a) h k = k
+    claims-none (Run.failed e) h k = k
+    claims-none (Run.refused e) h k = k
+
+    abbrev m : Moved G (Left S A)
+    m = sham.system.begin sham.fresh call l
+
+    abbrev AtRest : List (Event C) → Type 0
+    AtRest es = held.system.running (flash_after held sham.fresh call l es) ≡ false
+
+    -- behind the end of a call it has to be at rest
+    behind : ToldByHistory held → (values : List ℕ) (replies : List Answer) (ls : List Lent) (g : Run.Given (Left S A)) → m.given ≡ g → GivesAction g →
+        EndsAs driver.values (ends_with 0 values) (begun_with sham.system g call l m (answering replies ls)) → (es : List (Event C)) × AtRest es
+    unfolding run_of out_after EndsAs
+    behind history values replies ls (Run.act shown) is begun run =
+        let later = subst (λ g. ended_as (ending_as driver.values g) (ends_with 0 values) (EndsAs driver.values (ends_with 0 values) (goes_on sham.system m.flash (answering replies ls)))) is run in
+        let r = stops sham.system driver.values (ends_with 0 values) replies ls m.flash (out_then m.given none) later in (
+          r.0,
+          history.running sham.fresh call l r.0 history.at_rest
+              ∙ ap (λ g. is_out (out_after none (begun_with sham.system g call l m r.0))) is
+              ∙ ap is_out r.1,
+        )
+    behind history values replies ls (Run.ended a) is begun run = absurd begun
+    behind history values replies ls (Run.failed e) is begun run = absurd begun
+    behind history values replies ls (Run.refused e) is begun run = absurd begun
+
+    ends : Promises held → (es : List (Event C)) × AtRest es
+    unfolding run_of
+    ends p =
+        let begun = begins p.history p.same_as_rust in
+        let well = p.within_bound.ends_well sham.fresh call l c.small begun (c.can (sham.setup sham.fresh)) in
+        let ls = again well.replies l in
+        behind p.history well.values well.replies ls m.given refl begun
+        (well.ends ls (again-length well.replies l) (again-lends well.replies (takes_at held call l) l c.ready))
 
   -- ---- bills
 
@@ -106,17 +261,20 @@ module _ {F C S A : Type 0} (driver : Driver F C S A) where
       let asked = to.asks ls (again-length to.replies l) (again-lends to.replies (takes_at driver call l) l ready) in
       omega (arith, asked, kept (answering to.replies ls))
 
-  pub shams-fail : ShamsFail driver
-  shams-fail = record {
-    refusing = λ e flash call l bus. caught flash call l bus (Run.refused e) refl;
-    claiming = λ left flash call l bus. caught flash call l bus (Run.ended left) refl;
-    other = λ system kept other flash call l es r r'. other.same flash call l es r' ∙ sym (kept.same flash call l es r);
-    bills = λ bill kept other flash call l bytes ready begun.
+  -- a run does not look at the bills
+  other-comes : (bill : S → C → ℕ → ℕ → ℕ) (flash : F) (call : C) (l : Lent) {b : ℕ} → ComesTo (billing driver bill) flash call l b → ComesTo driver flash call l b
+  other-comes bill flash call l to = record { replies = to.replies; real = to.real; fits = to.fits; asks = to.asks }
+
+  pub shams-fail : WithinBound driver → ShamsFail driver G
+  shams-fail kept = record {
+    refusing = λ sham h history same. refuses-none sham _ (h sham.fresh call l) (begins sham history same);
+    claiming = λ sham h history same. claims-none sham _ (h sham.fresh call l) (begins sham history same);
+    silent = λ sham flash call l bus quiet same. quiet (has-begun (in_place driver sham) flash call l bus same);
+    running_on = λ sham h p.
+        let r = ends sham p in
+        true≢false (sym (h sham.fresh call l r.0 (begins sham p.history p.same_as_rust)) ∙ r.1);
+    bills = λ bill other flash call l bytes ready begun.
         let most = within flash call l (bound_at (billing driver bill) flash call l) ready (other-comes bill flash call l (other.reached flash call l bytes begun)) (bound_at driver flash call l) (kept.bounded flash call l) in
         let least = within flash call l (bound_at driver flash call l) ready (kept.reached flash call l bytes begun) (bound_at (billing driver bill) flash call l) (other.bounded flash call l) in
         omega (arith, most, least);
   }
-    where
-      -- a run does not look at the bills
-      other-comes : (bill : S → C → ℕ → ℕ → ℕ) (flash : F) (call : C) (l : Lent) {b : ℕ} → ComesTo (billing driver bill) flash call l b → ComesTo driver flash call l b
-      other-comes bill flash call l to = record { replies = to.replies; real = to.real; fits = to.fits; asks = to.asks }

@@ -1,4 +1,5 @@
--- A driver as the statements speak of it: what is stepped, what the Rust's struct holds, what each call is, and document 01's figures.
+-- A driver as the statements speak of it: what is stepped, what the Rust's struct holds, what each call is, and the figures
+-- (docs/SPECIFICATION.md, "Runs" and "Waits and bounds").
 use Rattle.std.specs.Prelude.{ℕ, Bool, true, false, List, length}
 use Rattle.spi_flash.specs.Loan.{Lent}
 use Rattle.spi_flash.specs.Prog.{Prog}
@@ -53,14 +54,14 @@ pub record Driver (F C S A : Type 0) : Type 0 where
   -- a driver before any construction, and what it holds
   pub fresh : F
   pub blank : S
-  -- "shows the delivered beginning of the caller's buffer"
+  -- the part of the caller's buffer that has been filled (docs/SPECIFICATION.md, "Lent memory")
   pub delivered : F → List ℕ → List ℕ
   pub sort : C → ℕ → ℕ → Sort S
-  -- document 01, "Bounds for a caller's own"
+  -- what may stand in the struct (docs/SPECIFICATION.md, "Geometry")
   pub in_bounds : S → Bool
   -- the program that the driver follows
   pub program : S → C → ℕ → ℕ → Prog (Left S A)
-  -- document 01, "Bills": the longest delay that the call asks; and the most actions that it gives out
+  -- the largest sum of delays that the call asks for; and how many actions it gives out at most
   pub delay_bound : S → C → ℕ → ℕ → ℕ
   pub action_bound : S → C → ℕ → ℕ → ℕ
   -- whether the call, once begun, ends well on some replies
@@ -91,7 +92,7 @@ module _ {F C S A : Type 0} (driver : Driver F C S A) where
   abbrev pub ends_at : F → C → Lent → Bool
   ends_at flash call l = driver.can_end (driver.setup flash) call (length l.buffer) (length l.given)
 
-  -- "For geometries inside document 01's bounds"
+  -- what the call works on is inside the bounds
   abbrev pub bounded_at : F → C → Lent → Bool
   bounded_at flash call l = driver.in_bounds (works_on (sort_at call l) (driver.setup flash))
 

@@ -1,5 +1,5 @@
--- Who is turned away, and why (document 01, "Who can cause a refusal"): the calls and replies that the driver refuses are these and no
--- others, so that a reply that fits is always taken.
+-- Who is turned away, and why (docs/SPECIFICATION.md, "Refusals and numbers"): the calls and replies that the driver refuses are these and
+-- no others, so that a reply that fits is always taken.
 use Rattle.std.specs.Prelude.{ℕ, Bool, true, false, ◌&&◌, ◌≡◌, List, [], ◌∷◌, ltb, length}
 use Rattle.std.proofs.Math.Option.{Option, none, some}
 use Rattle.qspi.specs.Bus.{fits_at}
@@ -16,26 +16,26 @@ use Rattle.flash_runs.specs.Driver.{Sort, constructs, tells, releases, uses, Dri
 
 -- ---- calls
 
--- "14 … scratch under 264", then "12 geometry outside the bounds"
+-- 14 for a scratch that is too short, then 12 for a geometry outside the bounds
 abbrev pub host_refusal : (scratch : ℕ) (bounded : Bool) → Option FlashError
 host_refusal scratch bounded =
     pick (ltb scratch scratch_least) (some FlashError.Misfit) (pick bounded none (some FlashError.InvalidGeometry))
 
--- "13 … a call other than construction unless the last construction begun has succeeded"
+-- 13 for a call that needs a driver, where there is none
 abbrev pub rest_refusal : {S : Type 0} → Sort S → (built : Bool) (scratch : ℕ) (bounded : Bool) → Option FlashError
 rest_refusal (constructs fresh) built scratch bounded = host_refusal scratch bounded
 rest_refusal tells built scratch bounded = pick built none (some FlashError.OutOfTurn)
 rest_refusal releases built scratch bounded = pick built none (some FlashError.OutOfTurn)
 rest_refusal (uses takes) built scratch bounded = pick built (host_refusal scratch bounded) (some FlashError.OutOfTurn)
 
--- refused so; of a call that is not, the Rust's own tests are left, of which demand 2 speaks
+-- refused so; of a call that is not, the Rust's own tests are left, of which specs/SameAsRust.antt speaks
 abbrev pub RefusedAs : {A : Type 0} → Option FlashError → Given A → Type 0
 RefusedAs none given = Unit {0}
 RefusedAs (some e) given = given ≡ refused e
 
 -- ---- replies
 
--- "A fitting reply is done, or exactly n bytes for a read (n may be 0); a bus action … may instead get an error code"
+-- the replies that fit an action (docs/SPECIFICATION.md, "Actions and replies")
 abbrev pub awaits : Shown → Awaits
 awaits low = Awaits.Done
 awaits high = Awaits.Done
@@ -45,7 +45,7 @@ awaits (quad_read command tclqv margin n) = Awaits.BytesOrError n
 awaits (quad_write command payload) = Awaits.DoneOrError
 awaits (delay us) = Awaits.Done
 
--- "An action awaited before is still awaited"
+-- behind a refusal the action that was awaited is still awaited
 abbrev pub out_then : {A : Type 0} → Given A → Option Shown → Option Shown
 out_then (act shown) before = some shown
 out_then (ended a) before = none
@@ -61,8 +61,7 @@ unfoldable pub out_after : {C A : Type 0} → Option Shown → List (Entry C A) 
 out_after before [] = before
 out_after before (x ∷ xs) = out_after (out_then x.given before) xs
 
--- why a reply with n bytes is refused, if it is: "13 … a reply with none expected", "14 reply of another kind or length, scratch under
--- 264, or a buffer length altered during a call"
+-- why a reply with n bytes is refused, if it is: 13 where none is awaited, 14 where it does not fit or what is lent does not
 abbrev pub reply_refusal : Option Shown → Takes → Lent → Reply → ℕ → Option FlashError
 reply_refusal none takes l r n = some FlashError.OutOfTurn
 reply_refusal (some shown) takes l r n = pick (ready_for takes l && fits_at (awaits shown) r n) none (some FlashError.Misfit)
@@ -76,7 +75,7 @@ refusal_in (refused e) = some e
 -- ---- the statement
 
 module _ {F C S A : Type 0} (driver : Driver F C S A) where
-  -- "13 a call begun during another"
+  -- 13 for a call during another
   abbrev pub call_refusal : F → C → Lent → Option FlashError
   call_refusal flash call l =
       pick (driver.system.running flash) (some FlashError.OutOfTurn)
@@ -99,8 +98,7 @@ module _ {F C S A : Type 0} (driver : Driver F C S A) where
         refusal_in (driver.system.answer (flash_after driver flash call l es) r bytes now).given ≡
         reply_refusal (out_after none (run_at driver flash call l es)) (takes_at driver call l) now r (length bytes)
 
-  -- "keep every byte when a request is turned away": what is refused leaves the driver and every lent byte as they were, on every
-  -- state, forged ones too
+  -- what is refused leaves the driver and every lent byte as they were, on every state, forged ones too
   pub record RefusalsKeep : Type 0 where
     pub calls : (flash : F) (call : C) (l : Lent) (e : FlashError) → (driver.system.begin flash call l).given ≡ refused e →
         ((driver.system.begin flash call l).flash ≡ flash) × ((driver.system.begin flash call l).left ≡ l)

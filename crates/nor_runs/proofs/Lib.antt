@@ -12,3 +12,4 @@ pub mod Simulation
 pub mod Openings
 pub mod Is
 pub mod Promises
+pub mod Shams
