@@ -16,7 +16,7 @@ use Rattle.spi_flash.specs.Machine.{Onward}
 use Rattle.spi_flash.specs.Wait.{first_wait, next_wait}
 use Rattle.spi_flash.specs.declared.error.FlashError.{FlashError}
 use Rattle.spi_flash.specs.declared.wait.Wait.{Wait}
-use Rattle.spi_nand.specs.Config.{in_bounds, page_count_of, first_page_of}
+use Rattle.spi_nand.specs.Config.{in_bounds, page_count_of, first_page_of, wanted_for}
 use Rattle.spi_nand.specs.Opcode.{timings_of}
 use Rattle.spi_nand.specs.Status.{status_of, busy_of, write_enabled_of, erase_failed_of, program_failed_of, verdict_of, configuration_of, protection_of, quad_enabled_of, same_configuration, is_unlocked}
 use Rattle.spi_nand.specs.declared.config.NandGeometry.{NandGeometry}
@@ -41,7 +41,7 @@ use Rattle.spi_nand.specs.declared.phase.RegisterFor.{RegisterFor}
 use Rattle.spi_nand.specs.declared.phase.ResetFor.{ResetFor}
 use Rattle.spi_nand.specs.declared.phase.Task.{Task}
 use Rattle.spi_nand.specs.declared.setup.Setup.{Setup}
-use Rattle.nand_steps.specs.Register.{id_of, geometry_at, geometry_for, wanted_for, identified_then, configured_then, configure_then, check_configuration, unprotected_then, unprotect_then, disable_quad, quad_disabled, written_then}
+use Rattle.nand_steps.specs.Register.{id_of, geometry_at, geometry_for, identified_then, configured_then, configure_then, check_configuration, unprotected_then, unprotect_then, disable_quad, quad_disabled, written_then}
 use Rattle.nand_steps.specs.Cache.{read_cache_then, piece_then, compared_then, load_program_then, payload_length}
 use Rattle.spi_nand.specs.Verdict.{asks_verdict}
 use Rattle.nand_steps.specs.Page.{uncorrectable, page_read_then, is_bad_then, accepted_then, loaded_then, judged_then, program_then, after_program, programmed_then, read_page_then, write_page_then}

@@ -25,7 +25,7 @@ use Rattle.spi_flash.specs.declared.wait.Wait.{Wait}
 use Rattle.spi_flash.proofs.Laws.{bind_assoc, then-assoc}
 use Rattle.spi_flash.proofs.Waiting.{wait-in-general}
 use Rattle.spi_nand.specs.Command.{get_feature_command, set_feature_command, write_enable_command, page_read_command, program_execute_command, block_erase_command}
-use Rattle.spi_nand.specs.Config.{in_bounds, page_count_of, first_page_of}
+use Rattle.spi_nand.specs.Config.{in_bounds, page_count_of, first_page_of, with_quad, wanted_for}
 use Rattle.spi_nand.specs.Opcode.{REG-STATUS, REG-CONFIGURATION, REG-BLOCK-PROTECTION, timings_of}
 use Rattle.spi_nand.specs.Status.{busy_value, status_of, write_enabled_of, erase_failed_of, program_failed_of, verdict_of, configuration_of, protection_of, configuration_byte, quad_enabled_of, with_bits, ECC-ENABLE, BUFFER-READ, QUAD-ENABLE, OPERATIONAL, same_configuration, is_unlocked}
 use Rattle.spi_nand.specs.declared.opcode.Operation.{Operation}
@@ -48,7 +48,7 @@ use Rattle.spi_nand.specs.declared.phase.RegisterFor.{RegisterFor}
 use Rattle.spi_nand.specs.declared.phase.ResetFor.{ResetFor}
 use Rattle.spi_nand.specs.declared.phase.Task.{Task}
 use Rattle.spi_nand.specs.declared.setup.Setup.{Setup}
-use Rattle.nand_steps.specs.Register.{id_of, geometry_for, wanted_for, with_quad, identified_then, configured_then, configure_then, check_configuration, unprotected_then, unprotect_then, disable_quad, quad_disabled, written_then}
+use Rattle.nand_steps.specs.Register.{id_of, geometry_for, identified_then, configured_then, configure_then, check_configuration, unprotected_then, unprotect_then, disable_quad, quad_disabled, written_then}
 use Rattle.nand_steps.specs.Go.{go_to, send, enable}
 use Rattle.nand_steps.specs.Cache.{within, read_cache_then, piece_then, compared_then, load_program_then}
 use Rattle.nand_steps.specs.Page.{load_then, page_read_then, is_bad_then, accepted_then, loaded_then, judged_then, program_then, after_program, programmed_then}

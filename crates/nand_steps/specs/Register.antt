@@ -4,7 +4,7 @@ use Rattle.spi_nand.specs.declared.config.NandQuadConfig.{NandQuadConfig}
 use Rattle.std.specs.Int.Bits.{bit_or}
 use Rattle.qspi.specs.Choice.{pick}
 use Rattle.spi_flash.specs.declared.error.FlashError.{FlashError}
-use Rattle.spi_nand.specs.Config.{from_jedec}
+use Rattle.spi_nand.specs.Config.{from_jedec, wanted_for}
 use Rattle.spi_nand.specs.Opcode.{REG-CONFIGURATION, REG-BLOCK-PROTECTION}
 use Rattle.spi_nand.specs.Status.{ECC-ENABLE, BUFFER-READ, QUAD-ENABLE, OPERATIONAL, configuration_byte, quad_enabled_of, with_bits, same_configuration, is_unlocked}
 use Rattle.spi_nand.specs.declared.config.NandGeometry.{NandGeometry}
@@ -52,14 +52,6 @@ abbrev pub brought_up : Setup → Configuration → Then
 brought_up setup after = done (with_after setup after)
 
 -- ---- ensure_configuration
-
-abbrev pub with_quad : Option NandQuadConfig → Configuration → Configuration
-with_quad None c = c
-with_quad (Some q) c = with_bits c QUAD-ENABLE QUAD-ENABLE
-
--- `wanted`
-unfoldable pub wanted_for : SpiNandConfig → Configuration → Configuration
-wanted_for config before = with_quad config.quad (with_bits before (bit_or ECC-ENABLE BUFFER-READ) (configuration_byte OPERATIONAL))
 
 unfoldable pub configured_then : Setup → Configuration → Bool → Then
 configured_then setup before false = end_with setup (Answer.Configuration before)

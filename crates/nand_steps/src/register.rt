@@ -1,7 +1,8 @@
 // The feature registers: bring_up, ensure_configuration, unprotect, disable_quad.
 ghost use Rattle.std.specs.Prelude.{◌≡◌};
 ghost use Rattle.nand_steps.specs.Go.{enable};
-ghost use Rattle.nand_steps.specs.Register.{id_of, geometry_for, identified_then, wanted_for, configure_then, configured_then, check_configuration, unprotect_then, unprotected_then, brought_up, disable_quad, quad_disabled, written_then};
+ghost use Rattle.spi_nand.specs.Config.{wanted_for};
+ghost use Rattle.nand_steps.specs.Register.{id_of, geometry_for, identified_then, configure_then, configured_then, check_configuration, unprotect_then, unprotected_then, brought_up, disable_quad, quad_disabled, written_then};
 
 use crate::go;
 use crate::then::Then;
@@ -70,7 +71,7 @@ fn write_register(setup: Setup, register: u8, value: u8, why: RegisterFor) -> Th
 // ---- ensure_configuration
 
 // ECC and buffer reads, and quad mode where it is configured.
-#[tactic(auto, unfolding(crate::specs::Register::wanted_for))]
+#[tactic(auto, unfolding(spi_nand::specs::Config::wanted_for))]
 fn wanted(config: SpiNandConfig, before: Configuration) -> Configuration
     ensures { result ≡ wanted_for config before }
 {

@@ -67,13 +67,13 @@ cleared n mask h m = omega (arith, parted 8 n mask h m)
 pub clear-bit : (k n : ℕ) → 2 ^ k < 256 → n < 256 → bit_and n (bit_not (2 ^ k)) ≡ n - bit k n * 2 ^ k
 clear-bit k n m h = cleared n (2 ^ k) h m ∙ ap (λ (x : ℕ). n - x) (mask-bit k n)
 
-bit-and : (k a b : ℕ) → bit k (bit_and a b) ≡ bit_and (bit k a) (bit k b)
+pub bit-and : (k a b : ℕ) → bit k (bit_and a b) ≡ bit_and (bit k a) (bit k b)
 bit-and k a b = ap (λ (x : ℕ). x % 2) (and_shr a b k) ∙ and_mod (a / 2 ^ k) (b / 2 ^ k) 1
 
-bit-or : (k a b : ℕ) → bit k (bit_or a b) ≡ bit_or (bit k a) (bit k b)
+pub bit-or : (k a b : ℕ) → bit k (bit_or a b) ≡ bit_or (bit k a) (bit k b)
 bit-or k a b = ap (λ (x : ℕ). x % 2) (or_shr a b k) ∙ or_mod (a / 2 ^ k) (b / 2 ^ k) 1
 
-bit-not : (k mask : ℕ) → k < 8 → mask < 256 → bit k (bit_not mask) ≡ 1 - bit k mask
+pub bit-not : (k mask : ℕ) → k < 8 → mask < 256 → bit k (bit_not mask) ≡ 1 - bit k mask
 bit-not zero mask h m = omega arith
 bit-not (suc zero) mask h m = omega arith
 bit-not (suc (suc zero)) mask h m = omega arith

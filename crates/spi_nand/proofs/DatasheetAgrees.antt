@@ -1,22 +1,27 @@
 -- The driver's definitions against the datasheets'.
 use Prim.Native.Nat.{ℕ, zero, suc, ◌+◌, ◌*◌, ◌/◌, ◌%◌, ◌^◌, ◌≤◌, ◌<◌}
 use mathlib.Core.Path.{◌≡◌, refl, sym, ap, ◌∙◌}
-use mathlib.Core.Bool.{◌&&◌}
+use mathlib.Core.Bool.{true, false, ◌&&◌, ◌||◌}
+use Rattle.qspi.specs.Choice.{pick}
+use Rattle.std.specs.Prelude.{◌==◌, if◌then◌else◌, Option, Some, None, is_some}
 use mathlib.Core.List.{List, [], ◌∷◌, ◌++◌}
 use native.Mathlib.Omega.{arith}
 use native.Mathlib.Nat.{mod-eq_of_lt, lt_trans, div-div-eq-div-mul}
 use lib.Bits.{bit_and}
 use lib.Dec.{eqb, eqb-suc-zero, lit≤, lit<}
 use borrow.Author.Tests.{ne_eqb}
-use Rattle.qspi.specs.Choice.{pick}
 use Rattle.qspi.specs.Address.{big_endian, read_from}
 use Rattle.qspi.specs.Command.{command_bytes}
 use Rattle.qspi.specs.declared.command.Command.{Command}
 use Rattle.qspi.proofs.Addresses.{address-bytes}
-use Rattle.spi_flash.specs.Bits.{bit}
+use Rattle.spi_flash.specs.Bits.{bit, is_set}
 use Rattle.spi_flash.proofs.Bits.{field, any-bit, bit_below, replaced-bit}
-use Rattle.spi_nand.specs.Status.{status_of, busy_of, write_enabled_of, erase_failed_of, program_failed_of, verdict_number, verdict_at, verdict_of, ECC-MASK, ecc_enabled_of, buffer_read_of, otp_enabled_of, quad_enabled_of, with_bits, protection_of, block_protect_bits, is_unlocked}
-use Rattle.spi_nand.specs.Config.{jedec_id_of, from_jedec}
+use Rattle.spi_nand.specs.Opcode.{timings_of}
+use Rattle.spi_nand.specs.Status.{status_of, busy_of, write_enabled_of, erase_failed_of, program_failed_of, verdict_number, verdict_at, verdict_of, ECC-MASK, ecc_enabled_of, buffer_read_of, otp_enabled_of, quad_enabled_of, configuration_of, configuration_byte, with_bits, protection_of, block_protect_bits, is_unlocked}
+use Rattle.spi_nand.specs.Config.{jedec_id_of, from_jedec, with_quad, wanted_for}
+use Rattle.spi_nand.specs.declared.config.NandQuadConfig.{NandQuadConfig}
+use Rattle.spi_nand.specs.declared.config.SpiNandConfig.{SpiNandConfig}
+use Rattle.spi_nand.specs.declared.opcode.Operation.{Operation}
 use Rattle.spi_nand.specs.Datasheet as sheet
 use Rattle.spi_nand.specs.Datasheet.{Part, w25n01gv, w25n02kv}
 use Rattle.spi_nand.specs.DatasheetAgrees.{PagesAgree, ColumnsAgree, CommandsAgree, GeometriesAgree, RegistersAgree, DatasheetAgrees, RustDeparts, status_of_verdict}
@@ -158,6 +163,48 @@ unfolding is_unlocked
 unlocked-agrees b =
     ap (λ (n : ℕ). eqb n 0) (protect-bits b) ∙ none-set (bit sheet.BP3 b) (bit sheet.BP2 b) (bit sheet.BP1 b) (bit sheet.BP0 b)
 
+-- bit k of the mask of ECC-E and BUF, and of that of bit 0, over what was there
+operational-bit : (k : ℕ) → k < 8 → (x : ℕ)
+    → pick (is_set k 24) (bit k 24) x ≡ (if k == sheet.ECC-E || k == sheet.BUF || k == sheet.RESERVED-OR-H-DIS && false then 1 else x)
+operational-bit zero h x = refl
+operational-bit (suc zero) h x = refl
+operational-bit (suc (suc zero)) h x = refl
+operational-bit (suc (suc (suc zero))) h x = refl
+operational-bit (suc (suc (suc (suc zero)))) h x = refl
+operational-bit (suc (suc (suc (suc (suc zero))))) h x = refl
+operational-bit (suc (suc (suc (suc (suc (suc zero)))))) h x = refl
+operational-bit (suc (suc (suc (suc (suc (suc (suc zero))))))) h x = refl
+operational-bit (suc (suc (suc (suc (suc (suc (suc (suc k)))))))) h x = absurd (omega arith)
+
+quad-bit : (k : ℕ) → k < 8 → (x : ℕ)
+    → pick (is_set k 1) (bit k 1) (pick (is_set k 24) (bit k 24) x)
+    ≡ (if k == sheet.ECC-E || k == sheet.BUF || k == sheet.RESERVED-OR-H-DIS && true then 1 else x)
+quad-bit zero h x = refl
+quad-bit (suc zero) h x = refl
+quad-bit (suc (suc zero)) h x = refl
+quad-bit (suc (suc (suc zero))) h x = refl
+quad-bit (suc (suc (suc (suc zero)))) h x = refl
+quad-bit (suc (suc (suc (suc (suc zero))))) h x = refl
+quad-bit (suc (suc (suc (suc (suc (suc zero)))))) h x = refl
+quad-bit (suc (suc (suc (suc (suc (suc (suc zero))))))) h x = refl
+quad-bit (suc (suc (suc (suc (suc (suc (suc (suc k)))))))) h x = absurd (omega arith)
+
+wanted-bit : (quad : Option NandQuadConfig) (k : ℕ) → k < 8 → (b : ℕ)
+    → bit k (configuration_byte (with_quad quad (with_bits (configuration_of b) 24 24)))
+    ≡ (if k == sheet.ECC-E || k == sheet.BUF || k == sheet.RESERVED-OR-H-DIS && is_some quad then 1 else bit k b)
+unfolding with_bits
+wanted-bit None k h b = replaced-bit k h b 24 24 (lit< tt) ∙ operational-bit k h (bit k b)
+wanted-bit (Some q) k h b =
+    replaced-bit k h (configuration_byte (with_bits (configuration_of b) 24 24)) 1 1 (lit< tt)
+    ∙ ap (pick (is_set k 1) (bit k 1)) (replaced-bit k h b 24 24 (lit< tt))
+    ∙ quad-bit k h (bit k b)
+
+configured-lem : (config : SpiNandConfig) (k : ℕ) → k < 8 → (b : ℕ)
+    → bit k (configuration_byte (wanted_for config (configuration_of b)))
+    ≡ (if k == sheet.ECC-E || k == sheet.BUF || k == sheet.RESERVED-OR-H-DIS && is_some config.quad then 1 else bit k b)
+unfolding wanted_for
+configured-lem config = wanted-bit config.quad
+
 registers-agree : RegistersAgree
 unfolding busy_of write_enabled_of erase_failed_of program_failed_of ecc_enabled_of buffer_read_of otp_enabled_of with_bits
 registers-agree = record {
@@ -173,37 +220,49 @@ registers-agree = record {
   buffer_read = any-bit sheet.BUF;
   otp_enabled = any-bit sheet.OTP-E;
   with_bits = replaced-bit;
+  configured = configured-lem;
   block_protect = protect-bits;
   unlocked = unlocked-agrees;
+  unprotected = refl;
+  quad_allowed = refl;
 }
 
+enough : (operation : Operation) → sheet.longest_time operation ≤ (timings_of operation).timeout_us
+unfolding timings_of
+enough Operation.Reset = omega arith
+enough Operation.PageRead = omega arith
+enough Operation.Program = omega arith
+enough Operation.Erase = omega arith
+enough Operation.WriteRegister = omega arith
+
 pub datasheet-agrees : DatasheetAgrees
-datasheet-agrees = record { commands = commands-agree; geometries = geometries-agree; registers = registers-agree }
+datasheet-agrees = record { commands = commands-agree; geometries = geometries-agree; registers = registers-agree; limits = record { enough = enough } }
 
 -- ---- departures
 
-ecc-meaning : (high low : ℕ) → high < 2 → low < 2
-    → status_of_verdict (verdict_at (high * 2 + low))
-    ≡ pick (eqb high 1) (pick (eqb low 1) sheet.failed_in_several_pages sheet.failed_in_one_page) (pick (eqb low 1) sheet.corrected sheet.clean)
-ecc-meaning zero zero h l = refl
-ecc-meaning zero (suc zero) h l = refl
-ecc-meaning (suc zero) zero h l = refl
-ecc-meaning (suc zero) (suc zero) h l = refl
-ecc-meaning (suc (suc high)) low h l = absurd (omega arith)
-ecc-meaning zero (suc (suc low)) h l = absurd (omega arith)
-ecc-meaning (suc zero) (suc (suc low)) h l = absurd (omega arith)
+ecc-meaning : (part : Part) (high low : ℕ) → high < 2 → low < 2
+    → status_of_verdict part (verdict_at (high * 2 + low)) ≡ sheet.ecc_of_bits part (eqb high 1) (eqb low 1)
+ecc-meaning part zero zero h l = refl
+ecc-meaning part zero (suc zero) h l = refl
+ecc-meaning part (suc zero) zero h l = refl
+ecc-meaning w25n01gv (suc zero) (suc zero) h l = refl
+ecc-meaning w25n02kv (suc zero) (suc zero) h l = refl
+ecc-meaning part (suc (suc high)) low h l = absurd (omega arith)
+ecc-meaning part zero (suc (suc low)) h l = absurd (omega arith)
+ecc-meaning part (suc zero) (suc (suc low)) h l = absurd (omega arith)
 
-verdict-means : (b : ℕ) → status_of_verdict (verdict_of (status_of b)) ≡ sheet.ecc_status b
+verdict-means : (part : Part) (b : ℕ) → status_of_verdict part (verdict_of (status_of b)) ≡ sheet.ecc_status part b
 unfolding verdict_of
-verdict-means b =
-    ap (λ (n : ℕ). status_of_verdict (verdict_at n)) (verdict-bits b)
-    ∙ ecc-meaning (bit sheet.ECC-1 b) (bit sheet.ECC-0 b) (bit_below sheet.ECC-1 b) (bit_below sheet.ECC-0 b)
+verdict-means part b =
+    ap (λ (n : ℕ). status_of_verdict part (verdict_at n)) (verdict-bits b)
+    ∙ ecc-meaning part (bit sheet.ECC-1 b) (bit sheet.ECC-0 b) (bit_below sheet.ECC-1 b) (bit_below sheet.ECC-0 b)
 
 pub rust-departs : RustDeparts
-unfolding from_jedec jedec_id_of quad_enabled_of
+unfolding from_jedec jedec_id_of quad_enabled_of is_unlocked block_protect_bits
 rust-departs = record {
   unknown = refl;
   other_part = refl;
   quad_enabled = any-bit sheet.RESERVED-OR-H-DIS;
+  quad_left_off = (refl, refl);
   verdict = verdict-means;
 }

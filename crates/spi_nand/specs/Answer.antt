@@ -1,4 +1,4 @@
--- The values of an answer, in the order in which a trace prints them.
+-- The values of an answer, in the order in which a trace prints them (docs/SPECIFICATION.md, "Refusals and numbers").
 use Rattle.spi_nand.specs.declared.config.NandQuadConfig.{NandQuadConfig}
 use Rattle.std.specs.Prelude.{ℕ, List, [], ◌∷◌, ◌++◌, Option, Some, None}
 use Rattle.spi_flash.specs.Value.{flag_value}
@@ -8,11 +8,11 @@ use Rattle.spi_nand.specs.declared.config.NandInit.{NandInit}
 use Rattle.spi_nand.specs.declared.config.NandJedecId.{NandJedecId}
 use Rattle.spi_nand.specs.declared.answer.Answer.{Answer}
 
--- "NAND manufacturer and device"
+-- what READ ID answered
 abbrev pub id_values : NandJedecId → List ℕ
 id_values id = id.manufacturer ∷ id.device ∷ []
 
--- "manufacturer, device, configuration before, after, protection before"
+-- what a construction found and left
 abbrev pub info_values : NandInit → List ℕ
 info_values info =
     info.id.manufacturer
@@ -22,19 +22,18 @@ info_values info =
     ∷ protection_byte info.protection_before
     ∷ []
 
--- "page, spare, pages per block, blocks"
+-- the fields in the order of the Rust's struct; so below
 abbrev pub geometry_values : NandGeometry → List ℕ
 geometry_values g = g.page_size ∷ g.oob_size ∷ g.pages_per_block ∷ g.block_count ∷ []
 
 abbrev pub quad_numbers : NandQuadConfig → List ℕ
 quad_numbers q = q.tclqv_ns ∷ q.read_cache_opcode ∷ q.load_program_opcode ∷ q.dummy_margin ∷ []
 
--- "0, or 1 and the four quad numbers"
+-- None is 0, Some is 1 and what it holds
 abbrev pub quad_values : Option NandQuadConfig → List ℕ
 quad_values None = 0 ∷ []
 quad_values (Some q) = 1 ∷ quad_numbers q
 
--- "then 0, or 1 and the four of the caller's own"
 abbrev pub own_values : Option NandGeometry → List ℕ
 own_values None = 0 ∷ []
 own_values (Some g) = 1 ∷ geometry_values g

@@ -1,14 +1,16 @@
--- Geometry and settings (document 01, "Geometry"; nand/config.rs).
-use Rattle.std.specs.Prelude.{ℕ, ◌+◌, ◌-◌, ◌*◌, ◌^◌, min, Bool, ◌&&◌, List, [], ◌∷◌, get_or, leb, eqb, Some, None}
+-- Geometry and settings (nand/config.rs; docs/SPECIFICATION.md, "Geometry").
+use Rattle.std.specs.Prelude.{ℕ, ◌+◌, ◌-◌, ◌*◌, ◌^◌, min, Bool, ◌&&◌, List, [], ◌∷◌, get_or, leb, eqb, Option, Some, None}
+use Rattle.std.specs.Int.Bits.{bit_or}
 use Rattle.std.specs.Option.{unwrap_or}
 use Rattle.spi_flash.specs.Rows.{known_in}
 use Rattle.spi_nand.specs.Opcode.{QUAD-READ-CACHE, QUAD-LOAD-PROGRAM-DATA}
-use Rattle.spi_nand.specs.Status.{configuration_of, protection_of}
+use Rattle.spi_nand.specs.Status.{ECC-ENABLE, BUFFER-READ, QUAD-ENABLE, OPERATIONAL, configuration_of, configuration_byte, with_bits, protection_of}
 use Rattle.spi_nand.specs.declared.config.NandJedecId.{NandJedecId}
 use Rattle.spi_nand.specs.declared.config.NandGeometry.{NandGeometry}
 use Rattle.spi_nand.specs.declared.config.NandQuadConfig.{NandQuadConfig}
 use Rattle.spi_nand.specs.declared.config.SpiNandConfig.{SpiNandConfig}
 use Rattle.spi_nand.specs.declared.config.NandInit.{NandInit}
+use Rattle.spi_nand.specs.declared.status.Configuration.{Configuration}
 
 -- ---- the id
 
@@ -22,11 +24,10 @@ abbrev pub geometry_of : (page spare per_block blocks : ℕ) → NandGeometry
 geometry_of page spare per_block blocks =
     record { page_size = page; oob_size = spare; pages_per_block = per_block; block_count = blocks }
 
--- "W25N01GV: page 2,048, spare 64, 64 pages a block, 1,024 blocks"
+-- the Rust's NandGeometry::W25N01GV and NandGeometry::W25N02KV
 abbrev pub W25N01GV : NandGeometry
 W25N01GV = geometry_of 2048 64 64 1024
 
--- "W25N02KV: spare 128, 2,048 blocks"
 abbrev pub W25N02KV : NandGeometry
 W25N02KV = geometry_of 2048 128 64 2048
 
@@ -44,7 +45,6 @@ block_size_of g = saturating (g.page_size * g.pages_per_block)
 unfoldable pub page_count_of : NandGeometry → ℕ
 page_count_of g = saturating (g.pages_per_block * g.block_count)
 
--- "Capacity of a NAND is page × pages per block × blocks"
 unfoldable pub capacity_of : NandGeometry → ℕ
 capacity_of g = saturating (g.page_size * g.pages_per_block * g.block_count)
 
@@ -55,7 +55,7 @@ cache_size_of g = saturating (g.page_size + g.oob_size)
 unfoldable pub first_page_of : NandGeometry → ℕ → ℕ
 first_page_of g block = saturating (block * g.pages_per_block)
 
--- "page, pages per block and blocks at least 1, spare 0 or more, page + spare at most 65,535, at most 16,777,216 pages in all"
+-- whether the driver takes a caller's own geometry; `Bounded` says what it comes to
 unfoldable pub in_bounds : NandGeometry → Bool
 in_bounds g =
     leb 1 g.page_size && leb 1 g.pages_per_block && leb 1 g.block_count
@@ -86,7 +86,7 @@ known_nand_devices =
 abbrev pub same_id : NandJedecId → NandJedecId → Bool
 same_id a b = eqb a.manufacturer b.manufacturer && eqb a.device b.device
 
--- "The ids in KNOWN_NAND_DEVICES choose; an unknown NAND is a W25N01GV"
+-- NandGeometry::from_jedec: a part that the table lacks is a W25N01GV
 unfoldable pub from_jedec : NandJedecId → NandGeometry
 from_jedec id = unwrap_or (known_in same_id known_nand_devices id) W25N01GV
 
@@ -108,6 +108,14 @@ single_config = record { quad = None; geometry = None }
 
 abbrev pub quad_config : NandQuadConfig → SpiNandConfig
 quad_config q = record { quad = Some q; geometry = None }
+
+abbrev pub with_quad : Option NandQuadConfig → Configuration → Configuration
+with_quad None c = c
+with_quad (Some q) c = with_bits c QUAD-ENABLE QUAD-ENABLE
+
+-- ensure_configuration's `wanted`, of the configuration register as it was read
+unfoldable pub wanted_for : SpiNandConfig → Configuration → Configuration
+wanted_for config before = with_quad config.quad (with_bits before (bit_or ECC-ENABLE BUFFER-READ) (configuration_byte OPERATIONAL))
 
 -- the Rust's NandInit::UNKNOWN
 abbrev pub UNKNOWN : NandInit

@@ -1,8 +1,9 @@
--- Winbond's datasheets of the W25N01GV and the W25N02KV. Each definition names what it rests on there; none speaks of the driver.
-use Rattle.std.specs.Prelude.{ℕ, ◌+◌, ◌*◌, ◌%◌, ◌^◌, Bool, ◌&&◌, List, [], ◌∷◌, ◌++◌}
-use Rattle.qspi.specs.Choice.{pick}
+-- Winbond's datasheets of the W25N01GV and the W25N02KV, each fact with what it rests on there; none speaks of the driver. No sheet was
+-- at hand: all of this is written from memory, and `unsure` marks where that is weak. What names no part is of both.
+use Rattle.std.specs.Prelude.{ℕ, ◌+◌, ◌*◌, ◌%◌, ◌^◌, Bool, true, false, ◌&&◌, List, [], ◌∷◌, ◌++◌}
 use Rattle.qspi.specs.Address.{big_endian}
 use Rattle.spi_flash.specs.Bits.{is_set, is_clear}
+use Rattle.spi_nand.specs.declared.opcode.Operation.{Operation}
 
 pub data Part : Type 0 where
   w25n01gv w25n02kv : Part
@@ -137,6 +138,10 @@ SRP1 = 0
 abbrev pub none_protected : ℕ → Bool
 none_protected byte = is_clear BP3 byte && is_clear BP2 byte && is_clear BP1 byte && is_clear BP0 byte
 
+-- "Write Protection Enable (WP-E)": /WP and /HOLD are the data lines IO2 and IO3, as quad instructions need, only while WP-E is 0
+abbrev pub quad_allowed : ℕ → Bool
+quad_allowed byte = is_clear WP-E byte
+
 -- "Configuration Register / Status Register-2", B0
 abbrev pub configuration_register : ℕ
 configuration_register = 0xB0
@@ -156,7 +161,7 @@ ECC-E = 4
 abbrev pub BUF : ℕ
 BUF = 3
 
--- reserved on the W25N01GV, H-DIS on the W25N02KV; a quad enable on neither
+-- reserved on the W25N01GV, H-DIS on the W25N02KV (unsure); a quad enable on neither
 abbrev pub RESERVED-OR-H-DIS : ℕ
 RESERVED-OR-H-DIS = 0
 
@@ -185,12 +190,28 @@ WEL = 1
 abbrev pub BUSY : ℕ
 BUSY = 0
 
--- W25N01GV, "Cumulative ECC Status (ECC-1, ECC-0)"; the last is of a continuous read (BUF = 0)
+-- "Cumulative ECC Status (ECC-1, ECC-0)"; the last is of a continuous read (BUF = 0)
 pub data EccStatus : Type 0 where
   clean corrected failed_in_one_page failed_in_several_pages : EccStatus
 
-abbrev pub ecc_status : ℕ → EccStatus
-ecc_status byte =
-    pick (is_set ECC-1 byte)
-    (pick (is_set ECC-0 byte) failed_in_several_pages failed_in_one_page)
-    (pick (is_set ECC-0 byte) corrected clean)
+-- the same table, by ECC-1 and ECC-0
+abbrev pub ecc_of_bits : Part → Bool → Bool → EccStatus
+ecc_of_bits part false false = clean
+ecc_of_bits part false true = corrected
+ecc_of_bits part true false = failed_in_one_page
+ecc_of_bits w25n01gv true true = failed_in_several_pages
+-- corrected, with more flips than 01 tells (unsure; Linux's driver of the part has it so)
+ecc_of_bits w25n02kv true true = corrected
+
+abbrev pub ecc_status : Part → ℕ → EccStatus
+ecc_status part byte = ecc_of_bits part (is_set ECC-1 byte) (is_set ECC-0 byte)
+
+-- ---- "AC Electrical Characteristics": the longest time of each operation, in microseconds (unsure of the W25N02KV)
+
+-- tRST during an erase, tRD with ECC, tPP, tBE; tW of a register is 50 ns
+abbrev pub longest_time : Operation → ℕ
+longest_time Operation.Reset = 500
+longest_time Operation.PageRead = 60
+longest_time Operation.Program = 700
+longest_time Operation.Erase = 10000
+longest_time Operation.WriteRegister = 1

@@ -1,16 +1,18 @@
 -- The driver's commands, registers and geometries are those of the datasheets, for every page, column and byte; and where they are not.
-use Rattle.std.specs.Prelude.{ℕ, ◌+◌, ◌*◌, ◌^◌, ◌≤◌, ◌<◌, ◌≡◌, ◌∷◌}
+use Rattle.std.specs.Prelude.{ℕ, ◌+◌, ◌*◌, ◌^◌, ◌≤◌, ◌<◌, ◌≡◌, true, false, ◌&&◌, ◌||◌, ◌==◌, if◌then◌else◌, is_some, ◌∷◌}
 use Rattle.qspi.specs.Choice.{pick}
 use Rattle.qspi.specs.Address.{big_endian, read_from}
 use Rattle.qspi.specs.Command.{command_bytes}
 use Rattle.spi_flash.specs.Bits.{bit, is_set}
-use Rattle.spi_nand.specs.Opcode.{REG-BLOCK-PROTECTION, REG-CONFIGURATION, REG-STATUS}
+use Rattle.spi_nand.specs.Opcode.{REG-BLOCK-PROTECTION, REG-CONFIGURATION, REG-STATUS, timings_of}
 use Rattle.spi_nand.specs.Status.{status_of, busy_of, write_enabled_of, erase_failed_of, program_failed_of, verdict_number, verdict_of, configuration_of, configuration_byte, ecc_enabled_of, buffer_read_of, otp_enabled_of, quad_enabled_of, with_bits, protection_of, block_protect_bits, is_unlocked}
-use Rattle.spi_nand.specs.Config.{jedec_id_of, geometry_of, W25N01GV, W25N02KV, from_jedec, QUAD-W25N01GV}
+use Rattle.spi_nand.specs.Config.{jedec_id_of, geometry_of, W25N01GV, W25N02KV, from_jedec, QUAD-W25N01GV, wanted_for}
 use Rattle.spi_nand.specs.Command.{reset_command, read_id_command, get_feature_command, set_feature_command, write_enable_command, page_read_command, read_cache_command, block_erase_command, load_program_data_command, program_execute_command, quad_read_cache_command, quad_load_program_data_command}
 use Rattle.spi_nand.specs.Datasheet as sheet
 use Rattle.spi_nand.specs.Datasheet.{Part, w25n01gv, w25n02kv}
 use Rattle.spi_nand.specs.declared.config.NandGeometry.{NandGeometry}
+use Rattle.spi_nand.specs.declared.config.SpiNandConfig.{SpiNandConfig}
+use Rattle.spi_nand.specs.declared.opcode.Operation.{Operation}
 use Rattle.spi_nand.specs.declared.status.EccVerdict.{EccVerdict}
 
 -- every page of the part has an address of its own, sent whole
@@ -69,24 +71,37 @@ pub record RegistersAgree : Type 0 where
   -- the bits of the mask come from the value, the others stay
   pub with_bits : (k : ℕ) → k < 8 → (b mask value : ℕ) → mask < 256
       → bit k (configuration_byte (with_bits (configuration_of b) mask value)) ≡ pick (is_set k mask) (bit k value) (bit k b)
+  -- what `ensure_configuration` writes: ECC-E and BUF set, with quad bit 0 too, and the other bits as they were read
+  pub configured : (config : SpiNandConfig) (k : ℕ) → k < 8 → (b : ℕ)
+      → bit k (configuration_byte (wanted_for config (configuration_of b)))
+      ≡ (if k == sheet.ECC-E || k == sheet.BUF || k == sheet.RESERVED-OR-H-DIS && is_some config.quad then 1 else bit k b)
   pub block_protect : (b : ℕ)
       → block_protect_bits (protection_of b) ≡ bit sheet.BP3 b * 8 + bit sheet.BP2 b * 4 + bit sheet.BP1 b * 2 + bit sheet.BP0 b
   pub unlocked : (b : ℕ) → is_unlocked (protection_of b) ≡ sheet.none_protected b
+  -- what `unprotect` writes protects no block, and leaves quad instructions allowed
+  pub unprotected : sheet.none_protected 0x00 ≡ true
+  pub quad_allowed : sheet.quad_allowed 0x00 ≡ true
+
+-- no wait gives up before the parts' longest time
+pub record Limits : Type 0 where
+  pub enough : (operation : Operation) → sheet.longest_time operation ≤ (timings_of operation).timeout_us
 
 pub record DatasheetAgrees : Type 0 where
   pub commands : CommandsAgree
   pub geometries : GeometriesAgree
   pub registers : RegistersAgree
+  pub limits : Limits
 
 -- ---- where the Rust departs, and the port with it
 
--- what the Rust's verdicts are on a W25N01GV
-abbrev pub status_of_verdict : EccVerdict → sheet.EccStatus
-status_of_verdict EccVerdict.NoBitFlips = sheet.clean
-status_of_verdict EccVerdict.Corrected = sheet.corrected
-status_of_verdict EccVerdict.Uncorrectable = sheet.failed_in_one_page
--- reserved to the Rust, and no failure
-status_of_verdict EccVerdict.Reserved = sheet.failed_in_several_pages
+-- what the Rust's verdicts are on each part
+abbrev pub status_of_verdict : Part → EccVerdict → sheet.EccStatus
+status_of_verdict part EccVerdict.NoBitFlips = sheet.clean
+status_of_verdict part EccVerdict.Corrected = sheet.corrected
+status_of_verdict part EccVerdict.Uncorrectable = sheet.failed_in_one_page
+-- reserved to the Rust, and no failure: a failure of the W25N01GV, none of the W25N02KV
+status_of_verdict w25n01gv EccVerdict.Reserved = sheet.failed_in_several_pages
+status_of_verdict w25n02kv EccVerdict.Reserved = sheet.corrected
 
 pub record RustDeparts : Type 0 where
   -- a W25N02KV answers an id that the Rust does not know, and is taken for a W25N01GV
@@ -95,4 +110,6 @@ pub record RustDeparts : Type 0 where
   pub other_part : from_jedec (jedec_id_of sheet.w25m02gv_identification) ≡ geometry_of_part w25n02kv
   -- the Rust's quad-enable bit is none
   pub quad_enabled : (b : ℕ) → quad_enabled_of (configuration_of b) ≡ is_set sheet.RESERVED-OR-H-DIS b
-  pub verdict : (b : ℕ) → status_of_verdict (verdict_of (status_of b)) ≡ sheet.ecc_status b
+  -- a part with A0 = 02 counts as unlocked, so nothing is written there and quad instructions stay off
+  pub quad_left_off : (is_unlocked (protection_of 0x02) ≡ true) × (sheet.quad_allowed 0x02 ≡ false)
+  pub verdict : (part : Part) (b : ℕ) → status_of_verdict part (verdict_of (status_of b)) ≡ sheet.ecc_status part b

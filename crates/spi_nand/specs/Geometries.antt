@@ -4,7 +4,7 @@ use Rattle.spi_nand.specs.Config.{block_size_of, page_count_of, capacity_of, in_
 use Rattle.spi_nand.specs.declared.config.NandJedecId.{NandJedecId}
 use Rattle.spi_nand.specs.declared.config.NandGeometry.{NandGeometry}
 
--- document 01's bounds, one fact each
+-- the bounds of a caller's own NAND, one fact each (docs/SPECIFICATION.md, "Geometry")
 pub record Bounded (g : NandGeometry) : Type 0 where
   pub page : 1 ≤ g.page_size
   pub per_block : 1 ≤ g.pages_per_block
@@ -18,7 +18,7 @@ pub record Exact (g : NandGeometry) : Type 0 where
   pub page_count : page_count_of g ≡ g.pages_per_block * g.block_count
   pub capacity : capacity_of g ≡ g.page_size * g.pages_per_block * g.block_count
 
--- a part that the driver knows by its id; document 01: "NotSupported (also page above 4,096 NAND)"
+-- a geometry that an id gives: within the bounds, and with a page that a construction takes
 pub record Supported (g : NandGeometry) : Type 0 where
   pub bounds : in_bounds g ≡ true
   pub page : g.page_size ≤ 4096

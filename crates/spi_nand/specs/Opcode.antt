@@ -1,4 +1,4 @@
--- Opcodes, register addresses and wait limits (nand/opcode.rs; document 01, "Wait limits").
+-- Opcodes, register addresses and wait limits (nand/opcode.rs; docs/SPECIFICATION.md, "Waits and bounds").
 use Rattle.std.specs.Prelude.{ℕ, List, [], ◌∷◌, get_or}
 use Rattle.spi_flash.specs.declared.wait.Timings.{Timings}
 use Rattle.spi_nand.specs.declared.opcode.Operation.{Operation}
@@ -53,11 +53,11 @@ REG-STATUS = 0xC0
 
 -- ---- the wait limits
 
--- "microseconds: first delay, poll delay, limit"
+-- in microseconds
 abbrev pub limits : (first poll limit : ℕ) → Timings
 limits first poll limit = record { initial_us = first; poll_us = poll; timeout_us = limit }
 
--- "reset 10, 10, 500,000; page load 10, 10, 400,000; program 75, 15, 400,000; erase 250, 50, 400,000; register 10, 10, 10,000"
+-- a row for each operation
 abbrev pub wait_limits : List Timings
 wait_limits =
     limits 10 10 500000

@@ -1,4 +1,4 @@
--- The feature registers C0, B0 and A0 (document 01, "Register bytes"; nand/status.rs), in the Rust's masks.
+-- The feature registers C0, B0 and A0 (nand/status.rs; docs/SPECIFICATION.md, "Registers"), in the Rust's masks.
 -- `bit_and` and `bit_or` are what the language's `&` and `|` compute.
 use Rattle.std.specs.Prelude.{ℕ, ◌*◌, ◌/◌, ◌%◌, ◌^◌, Bool, eqb}
 use Rattle.std.specs.Int.Bits.{bit_and, bit_or}
@@ -17,7 +17,7 @@ status_of byte = record { 0 = byte }
 abbrev pub status_byte : Status → ℕ
 status_byte s = s.0
 
--- the Rust's masks; document 01: "bit 0 is busy, 1 write enabled, 2 erase failed, 3 program failed"
+-- the Rust's masks
 abbrev pub BUSY : ℕ
 BUSY = 2 ^ 0
 
@@ -30,7 +30,6 @@ ERASE-FAILED = 2 ^ 2
 abbrev pub PROGRAM-FAILED : ℕ
 PROGRAM-FAILED = 2 ^ 3
 
--- "Bits 5 and 4 give the ECC verdict"
 abbrev pub ECC-MASK : ℕ
 ECC-MASK = 3 * 2 ^ 4
 
@@ -50,8 +49,8 @@ erase_failed_of s = any_of ERASE-FAILED s.0
 unfoldable pub program_failed_of : Status → Bool
 program_failed_of s = any_of PROGRAM-FAILED s.0
 
--- "0 no flips, 1 corrected, 2 uncorrectable, 3 reserved"
--- departs from the datasheets: 3 is, on the W25N01GV, errors beyond correction in several pages of a continuous read
+-- the bits of a verdict, as ecc_verdict matches them. Departs from the datasheets: 3 is, on the W25N01GV, errors beyond correction in several
+-- pages of a continuous read, and on the W25N02KV corrected
 abbrev pub verdict_number : EccVerdict → ℕ
 verdict_number EccVerdict.NoBitFlips = 0
 verdict_number EccVerdict.Corrected = 1
@@ -75,8 +74,7 @@ configuration_of byte = record { 0 = byte }
 abbrev pub configuration_byte : Configuration → ℕ
 configuration_byte c = c.0
 
--- the Rust's masks; document 01: "Configuration bits: 0 quad, 3 buffer read, 4 ECC"
--- departs from the datasheets: bit 0 is reserved on the W25N01GV, H-DIS on the W25N02KV
+-- the Rust's masks. Departs from the datasheets: bit 0 is reserved on the W25N01GV, H-DIS on the W25N02KV
 abbrev pub QUAD-ENABLE : ℕ
 QUAD-ENABLE = 2 ^ 0
 
@@ -126,6 +124,6 @@ BLOCK-PROTECT-MASK = 15 * 2 ^ 3
 unfoldable pub block_protect_bits : Protection → ℕ
 block_protect_bits p = bit_and p.0 BLOCK-PROTECT-MASK / 2 ^ 3
 
--- document 01: "Protection is unlocked when bits 6 to 3 are zero"
+-- the Rust's is_unlocked
 unfoldable pub is_unlocked : Protection → Bool
 is_unlocked p = eqb (block_protect_bits p) 0

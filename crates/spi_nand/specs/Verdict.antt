@@ -2,7 +2,7 @@
 use Rattle.std.specs.Prelude.{Bool, true, false}
 use Rattle.spi_nand.specs.declared.phase.LoadFor.{LoadFor}
 
--- page_read asks for the verdict; "testing ECC in `is_bad_block`" is a trap: it calls load_page, which asks for none
+-- page_read asks for the verdict; is_bad_block calls load_page, which asks for none
 abbrev pub asks_verdict : LoadFor → Bool
 asks_verdict LoadFor.PageRead = true
 asks_verdict LoadFor.ReadPage = true

@@ -14,7 +14,7 @@ pub record RowRule (t : Timings) : Type 0 where
   pub below : t.initial_us < t.timeout_us
   pub fits : t.timeout_us + t.poll_us < 2 ^ 32
 
--- document 01, "Bills": reset 500,000; `page_read` and `erase_block` 400,000; `program_execute` 400,005; register write 10,000
+-- the most delay that a wait asks (docs/SPECIFICATION.md, "Waits and bounds"); the polls of a program do not end on its limit
 abbrev pub largest_of : Operation → ℕ
 largest_of Operation.Reset = 500000
 largest_of Operation.PageRead = 400000
@@ -22,7 +22,7 @@ largest_of Operation.Program = 400005
 largest_of Operation.Erase = 400000
 largest_of Operation.WriteRegister = 10000
 
--- document 01: "A program wait makes at most 26,663 looks, asking 400,005; a page load 40,000 looks"; the others likewise
+-- and the most looks that it makes, each behind a delay
 abbrev pub looks_of : Operation → ℕ
 looks_of Operation.Reset = 50000
 looks_of Operation.PageRead = 40000

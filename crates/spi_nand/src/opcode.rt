@@ -46,7 +46,7 @@ pub enum Operation {
     WriteRegister,
 }
 
-// The waits: a table by operation, as document 01 names it, in the order of Operation's variants.
+// The waits: a row for each operation, in the order of Operation's variants.
 const WAITS: [Timings; 5] = [
     Timings {
         initial_us: 10,

@@ -1,4 +1,4 @@
--- Geometries, the id table and their bounds (nor/config.rs; document 01, "Geometry").
+-- Geometries, the id table and their bounds (nor/config.rs; docs/SPECIFICATION.md, "Geometry").
 use Rattle.std.specs.Prelude.{ℕ, ◌%◌, ◌^◌, Bool, false, ◌&&◌, List, [], ◌∷◌, leb, eqb, Option, Some, None}
 use Rattle.std.specs.Option.{unwrap_or}
 use Rattle.qspi.specs.Choice.{pick}
@@ -49,14 +49,14 @@ known_nor_devices =
     ∷ (jedec_id 0xC8 0x40 0x18, w25q128jv)
     ∷ []
 
--- "An unknown NOR with capacity code 16 to 24 has 2 to that power bytes"
+-- NorJedecId::capacity_bytes
 unfoldable pub capacity_bytes_of : NorJedecId → Option ℕ
 capacity_bytes_of id =
     pick (leb 16 id.capacity)
     (pick (leb id.capacity 24) (Some (2 ^ id.capacity)) None)
     None
 
--- ", any other is a W25Q128JV"
+-- from_jedec's last lines: a part that the table lacks goes by its capacity code, else it is a W25Q128JV
 abbrev pub unknown_device : Option ℕ → NorDeviceInfo
 unknown_device (Some capacity) = standard_device capacity
 unknown_device None = w25q128jv
@@ -64,7 +64,7 @@ unknown_device None = w25q128jv
 abbrev pub same_id : NorJedecId → NorJedecId → Bool
 same_id a b = eqb a.manufacturer b.manufacturer && eqb a.memory_type b.memory_type && eqb a.capacity b.capacity
 
--- NorDeviceInfo::from_jedec; document 01: "The ids in `KNOWN_NOR_DEVICES` choose"
+-- NorDeviceInfo::from_jedec
 unfoldable pub from_jedec : NorJedecId → NorDeviceInfo
 from_jedec id = unwrap_or (known_in same_id known_nor_devices id) (unknown_device (capacity_bytes_of id))
 
@@ -76,7 +76,7 @@ largest_capacity = 16777216
 abbrev pub largest_page : ℕ
 largest_page = 65536
 
--- document 01: "NOR: capacity at most 16,777,216, page 1 to 65,536, sector at least 1, block a positive multiple of sector and at most 16,777,216"
+-- whether the driver takes a caller's own geometry (docs/SPECIFICATION.md, "Geometry"); `InBounds` says what it comes to
 unfoldable pub in_bounds_of : NorDeviceInfo → Bool
 in_bounds_of d =
     pick (leb d.capacity largest_capacity)

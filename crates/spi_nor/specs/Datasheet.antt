@@ -1,6 +1,8 @@
--- Winbond W25Q128JV and W25Q64JV: facts from their datasheets, each with the table it rests on. Bytes are hexadecimal.
-use Rattle.std.specs.Prelude.{ℕ, ◌+◌, ◌*◌, ◌^◌, List, [], ◌∷◌}
+-- Winbond's W25Q128JV and W25Q64JV, as their datasheets say, each fact with its table. No sheet was at hand: all of this is written
+-- from memory, and `unsure` marks where that is weak. Bytes are hexadecimal.
+use Rattle.std.specs.Prelude.{ℕ, ◌+◌, ◌*◌, ◌^◌, Bool, ◌&&◌, List, [], ◌∷◌}
 use Rattle.qspi.specs.Address.{big_endian}
+use Rattle.spi_flash.specs.Bits.{is_clear}
 use Rattle.spi_nor.specs.declared.opcode.Operation.{Operation}
 
 -- ---- "Instruction Set Table 1 (Standard SPI Instructions)": what goes in on DI, byte by byte
@@ -97,7 +99,7 @@ srp_bit = 7
 abbrev pub srl_bit : ℕ
 srl_bit = 0
 
--- S9: quad enable
+-- S9: quad enable; on -IQ and -JQ parts it is always 1 (unsure)
 abbrev pub qe_bit : ℕ
 qe_bit = 1
 
@@ -119,15 +121,24 @@ cmp_bit = 6
 abbrev pub sus_bit : ℕ
 sus_bit = 7
 
+-- "Status Register Memory Protection", WPS = 0: no byte is protected where BP2 to BP0 and CMP are 0, whatever TB and SEC are
+abbrev pub none_protected : (register1 register2 : ℕ) → Bool
+none_protected register1 register2 =
+    is_clear bp2_bit register1 && is_clear bp1_bit register1 && is_clear bp0_bit register1 && is_clear cmp_bit register2
+
 -- ---- "Manufacturer and Device Identification"
 
 -- MF7-MF0
 abbrev pub winbond : ℕ
 winbond = 0xEF
 
--- ID15-ID8 of both parts
+-- ID15-ID8 of the -IQ and -JQ parts
 abbrev pub memory_type : ℕ
 memory_type = 0x40
+
+-- ID15-ID8 of the -IM and -JM parts (unsure)
+abbrev pub memory_type_m : ℕ
+memory_type_m = 0x70
 
 -- ID7-ID0
 abbrev pub w25q64jv_code : ℕ

@@ -4,7 +4,7 @@ use Rattle.spi_nor.specs.Config.{capacity_bytes_of, from_jedec, in_bounds_of}
 use Rattle.spi_nor.specs.declared.config.NorJedecId.{NorJedecId}
 use Rattle.spi_nor.specs.declared.config.NorDeviceInfo.{NorDeviceInfo}
 
--- document 01, "Geometry": the bounds for a caller's own NOR
+-- the bounds of a caller's own NOR, one fact each (docs/SPECIFICATION.md, "Geometry")
 pub record InBounds (d : NorDeviceInfo) : Type 0 where
   pub capacity : d.capacity ≤ 16777216
   pub least_page : 1 ≤ d.page_size

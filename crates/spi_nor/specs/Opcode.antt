@@ -1,4 +1,4 @@
--- Opcodes (nor/opcode.rs) and the wait table (nor/opcode.rs; document 01, "Wait limits").
+-- Opcodes and the wait table (nor/opcode.rs; docs/SPECIFICATION.md, "Waits and bounds").
 use Rattle.std.specs.Prelude.{ℕ, List, [], ◌∷◌, get_or}
 use Rattle.spi_flash.specs.declared.wait.Timings.{Timings}
 use Rattle.spi_nor.specs.declared.opcode.Operation.{Operation}
@@ -64,7 +64,7 @@ MAX-BULK-LEN = 65536
 abbrev pub wait_row : ℕ → ℕ → ℕ → Timings
 wait_row first poll limit = record { initial_us = first; poll_us = poll; timeout_us = limit }
 
--- document 01: "NOR 0, 100 and: program 20,000, sector 1,000,000, block 5,000,000, status 100,000"
+-- a row for each operation: no first delay, the poll delay, the limit
 abbrev pub wait_table : List Timings
 wait_table =
     wait_row 0 POLL-INTERVAL-US PAGE-PROGRAM-TIMEOUT-US

@@ -1,9 +1,10 @@
--- Status register bits (nor/status.rs; document 01, "Register bytes": "NOR masks"). `bit_and` and `bit_or` of lib.Bits are the language's `&` and `|`.
+-- Status register bits (nor/status.rs; docs/SPECIFICATION.md, "Registers"). `bit_and` and `bit_or` are what the language's `&` and `|` compute.
 use Rattle.std.specs.Prelude.{ℕ, ◌%◌, Bool}
 use Rattle.std.specs.Int.Bits.{bit_and, bit_or}
 use Rattle.spi_flash.specs.Bits.{any_of, bit_not}
 
--- "busy 01, write latch 02, quad 40 in SR1 or 02 in SR2, protection FC in SR1 and E0 in SR2"
+-- ---- the Rust's masks, of status register 1 (SR1) and 2 (SR2)
+
 abbrev pub BUSY : ℕ
 BUSY = 0x01
 

@@ -13,14 +13,14 @@ pub record RowRule (t : Timings) : Type 0 where
   pub poll : 1 ≤ t.poll_us
   pub fits : t.timeout_us + t.poll_us < 2 ^ 32
 
--- document 01, "Bills": `write` 20,000 a page; sector erase 1,000,000; block erase 5,000,000; `disable_quad` 100,000
+-- the most delay that a wait asks (docs/SPECIFICATION.md, "Waits and bounds"): a page of `write`, an erase of either kind, a register write
 abbrev pub largest_of : Operation → ℕ
 largest_of Operation.PageProgram = 20000
 largest_of Operation.SectorErase = 1000000
 largest_of Operation.BlockErase = 5000000
 largest_of Operation.StatusWrite = 100000
 
--- a look before any delay, and one after each poll of 100
+-- and the most looks that it makes: one before any delay, and one after each poll of 100
 abbrev pub looks_of : Operation → ℕ
 looks_of Operation.PageProgram = 201
 looks_of Operation.SectorErase = 10001

@@ -53,7 +53,7 @@ pub enum Operation {
     StatusWrite,
 }
 
-// The waits: a table by operation, as document 01 names it, in the order of Operation's variants. The first look comes at once.
+// The waits: a row for each operation, in the order of Operation's variants. The first look comes at once.
 const WAITS: [Timings; 4] = [
     Timings {
         initial_us: 0,
