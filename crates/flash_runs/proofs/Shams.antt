@@ -5,10 +5,11 @@ use mathlib.Core.Bool.{Bool, true, false, true≢false}
 use mathlib.Core.Path.{◌≡◌, refl, ap, sym, ◌∙◌, subst}
 use mathlib.Core.List.{List, [], ◌∷◌}
 use mathlib.Core.Option.{Option, none}
-use lib.ListN.{length}
+use lib.ListN.{length, replicate}
 use Rattle.qspi.specs.Bytes.{AllBytes}
 use Rattle.qspi.specs.Command.{scratch_least}
 use Rattle.qspi.specs.Shown.{Shown}
+use Rattle.qspi.specs.declared.bus.Reply.{Reply}
 use Rattle.qspi.specs.declared.transfer.Body.{Body}
 use Rattle.qspi.specs.declared.transfer.Transfer.{Transfer}
 use Rattle.spi_flash.specs.Loan.{Lent, ready_for}
@@ -130,6 +131,38 @@ pub told-alike : {F C S A : Type 0} (driver sham : Driver F C S A) → SameAsRus
     Regular driver flash call l es → Regular sham flash call l es →
     rust_call driver (driver.setup flash) call l es ≡ rust_call sham (sham.setup flash) call l es → told (steps_at sham flash call l es) ≡ told (steps_at driver flash call l es)
 told-alike driver sham kept other flash call l es r s e = other.same flash call l es s ∙ sym e ∙ sym (kept.same flash call l es r)
+
+-- ---- runs of them
+
+-- a scratch that is long enough, and no more
+abbrev pub lending : List ℕ → Lent
+lending buffer = record { scratch = replicate 264 0; buffer = buffer; given = [] }
+
+abbrev pub done : {C : Type 0} → List ℕ → Event C
+done buffer = Run.reply Reply.Done [] (lending buffer)
+
+abbrev pub got : {C : Type 0} → List ℕ → List ℕ → Event C
+got bytes buffer = Run.reply Reply.Data bytes (lending buffer)
+
+-- whether the last that a call has given is an action
+abbrev pub acts_last : {A : Type 0} → List (Did A) → Bool
+acts_last [] = false
+acts_last (x ∷ []) = is_action x.given
+acts_last (x ∷ y ∷ ys) = acts_last (y ∷ ys)
+
+-- the first value of its answer
+abbrev first : List ℕ → ℕ
+first [] = 0
+first (x ∷ xs) = x
+
+abbrev value_in : {S A : Type 0} → (A → List ℕ) → Run.Given (Left S A) → ℕ
+value_in values (Run.ended left) = first (values left.answer)
+value_in values _ = 0
+
+abbrev pub last_value : {S A : Type 0} → (A → List ℕ) → List (Did (Left S A)) → ℕ
+last_value values [] = 0
+last_value values (x ∷ []) = value_in values x.given
+last_value values (x ∷ y ∷ ys) = last_value values (y ∷ ys)
 
 -- ---- a construction
 

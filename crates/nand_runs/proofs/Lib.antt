@@ -25,4 +25,5 @@ pub mod LeastDelay
 pub mod SeenRuns
 pub mod SeenSteps
 pub mod Shams
+pub mod ShamDrivers
 pub mod Chip

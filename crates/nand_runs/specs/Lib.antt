@@ -8,3 +8,4 @@ pub mod ProgramBounds
 pub mod Observer
 pub mod ReadSeen
 pub mod Shams
+pub mod ShamDrivers

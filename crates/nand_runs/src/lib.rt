@@ -3,6 +3,7 @@
 
 ghost use Rattle.nand_runs.specs.Chip.{DeliversTheChip};
 ghost use Rattle.nand_runs.specs.Promises.{NandPromises};
+ghost use Rattle.nand_runs.specs.ShamDrivers.{NandShamsFail};
 ghost use Rattle.nand_runs.specs.Run.{nand_driver};
 
 /// Over every run of the NAND driver: who is refused and why, what happens to lent bytes, that every action, result and delivered
@@ -15,4 +16,10 @@ pub fn nand_promises()
 /// for, a read delivers just the chip's bytes from its offset on, at every step and at a good end.
 pub fn nand_delivers_the_chip()
     ensures { DeliversTheChip nand_driver }
+{}
+
+/// No sham driver keeps the promises: one that refuses every request, claims success with no traffic, loads the first page and claims the
+/// rest, runs for ever, gives up before it looks, gives the same result whatever was read, or has a bound that is no sum of its delays.
+pub fn nand_shams_fail()
+    ensures { NandShamsFail }
 {}

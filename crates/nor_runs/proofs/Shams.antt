@@ -1,10 +1,9 @@
 -- No sham NOR driver keeps its promise.
 use Prim.Native.Nat.{ℕ}
 use native.Mathlib.Omega.{arith}
-use mathlib.Core.Bool.{Bool, true, false, true≢false}
+use mathlib.Core.Bool.{true, false, true≢false}
 use mathlib.Core.Path.{◌≡◌, refl, ap, sym, ◌∙◌}
 use mathlib.Core.List.{List, [], ◌∷◌}
-use lib.ListN.{replicate}
 use Rattle.std.specs.Prelude.{None}
 use Rattle.spi_flash.specs.Loan.{Lent}
 use Rattle.qspi.specs.Bus.{fits_of}
@@ -25,17 +24,17 @@ use Rattle.nor_steps.specs.Erase.{erase_unit}
 use Rattle.nor_steps.specs.Opening.{opening_of}
 use Rattle.nor_driver.specs.Next.{after_phase, next_of}
 use Rattle.nor_driver.specs.Wait.{latched_then, wait_then, writing_then}
-use Rattle.spi_flash.specs.Run.{goes_on, call_of, Event, reply, Given, act, ended, Entry, Fitting}
-use Rattle.spi_flash.specs.Seen.{Did, told, SameData, Undisturbed}
-use Rattle.qspi.specs.declared.bus.Reply.{Reply}
+use Rattle.spi_flash.specs.Run.{goes_on, call_of, Event, Entry, Fitting}
+use Rattle.spi_flash.specs.Seen.{told, SameData, Undisturbed}
 use Rattle.spi_nor.specs.Config.{single_config}
+use Rattle.spi_nor.specs.Answer.{answer_values}
 use Rattle.spi_nor.specs.declared.answer.Answer.{Answer}
 use Rattle.spi_nor.specs.declared.call.Call.{Call}
 use Rattle.spi_nor.specs.declared.setup.Setup.{Setup}
 use Rattle.flash_runs.specs.Driver.{Left, Driver, steps_at}
 use Rattle.flash_runs.specs.SameAsRust.{Regular, SameAsRust}
 use Rattle.flash_runs.specs.Shams.{one_result}
-use Rattle.flash_runs.proofs.Shams.{told-alike, Constructible, shams-fail}
+use Rattle.flash_runs.proofs.Shams.{told-alike, lending, done, got, acts_last, last_value, Constructible, shams-fail}
 use Rattle.nor_driver.specs.Call.{fresh_setup}
 use Rattle.nor_driver.specs.Settle.{SpiNorFlash, flash_of}
 use Rattle.nor_runs.specs.Program.{program_of}
@@ -44,44 +43,17 @@ use Rattle.nor_runs.specs.Run.{nor_driver}
 use Rattle.nor_runs.specs.Shams.{Memory, hasty, NorShamsFail}
 use Rattle.nor_runs.proofs.Promises.{nor-promises}
 
--- ---- what is lent, and a driver that is built
-
-abbrev lent : Lent
-lent = record { scratch = replicate 264 0; buffer = []; given = [] }
-
+-- a driver that is built
 abbrev built : SpiNorFlash
 built = flash_of (fresh_setup single_config) true 0 None
 
-abbrev done : Event Call
-done = reply Reply.Done [] lent
-
-abbrev got : ℕ → Event Call
-got byte = reply Reply.Data (byte ∷ []) lent
-
--- ---- what a call has given last
-
-abbrev acts : {A : Type 0} → Given A → Bool
-acts (act shown) = true
-acts _ = false
-
-abbrev acts_last : {A : Type 0} → List (Did A) → Bool
-acts_last [] = false
-acts_last (x ∷ []) = acts x.given
-acts_last (x ∷ y ∷ ys) = acts_last (y ∷ ys)
-
-abbrev byte_in : Given (Left Setup Answer) → Answer
-byte_in (ended left) = left.answer
-byte_in _ = Answer.Done
-
-abbrev last_answer : List (Did (Left Setup Answer)) → Answer
-last_answer [] = Answer.Done
-last_answer (x ∷ []) = byte_in x.given
-last_answer (x ∷ y ∷ ys) = last_answer (y ∷ ys)
+abbrev lent : Lent
+lent = lending []
 
 -- ---- Timeout before looking
 
 abbrev erasing : List (Event Call)
-erasing = done ∷ done ∷ done ∷ done ∷ done ∷ got 2 ∷ done ∷ done ∷ done ∷ done ∷ []
+erasing = done [] ∷ done [] ∷ done [] ∷ done [] ∷ done [] ∷ got (2 ∷ []) [] ∷ done [] ∷ done [] ∷ done [] ∷ done [] ∷ []
 
 abbrev erases : Driver SpiNorFlash Call Setup Answer → List (Entry Call (Left Setup Answer))
 erases driver = steps_at driver built (Call.EraseSector 0) lent erasing
@@ -123,7 +95,7 @@ hasty-fails kept =
 
 -- a status register that reads so
 abbrev reading : ℕ → List (Event Call)
-reading byte = done ∷ done ∷ got byte ∷ done ∷ []
+reading byte = done [] ∷ done [] ∷ got (byte ∷ []) [] ∷ done [] ∷ []
 
 abbrev reads : Driver SpiNorFlash Call Setup Answer → ℕ → List (Entry Call (Left Setup Answer))
 reads driver byte = steps_at driver built Call.ReadStatus1 lent (reading byte)
@@ -150,32 +122,25 @@ module _ (answer : Answer) where
     undisturbed = (refl, (refl, (refl, (refl, (refl, tt)))));
   }
 
-  answers-alike : SameAsRust sham → (byte : ℕ) → last_answer (told (reads sham byte)) ≡ last_answer (told (reads nor_driver byte))
-  answers-alike kept byte =
-      ap last_answer (told-alike nor_driver sham nor-promises.same_as_rust kept built Call.ReadStatus1 lent (reading byte) (reads-regular byte) (sham-regular byte) refl)
+  alike : SameAsRust sham → (byte : ℕ) → last_value answer_values (told (reads sham byte)) ≡ last_value answer_values (told (reads nor_driver byte))
+  alike kept byte =
+      ap (last_value answer_values) (told-alike nor_driver sham nor-promises.same_as_rust kept built Call.ReadStatus1 lent (reading byte) (reads-regular byte) (sham-regular byte) refl)
 
   -- whatever was read, the sham answers the same
-  answers-same : last_answer (told (reads sham 0)) ≡ last_answer (told (reads sham 1))
+  same-answers : last_value answer_values (told (reads sham 0)) ≡ last_value answer_values (told (reads sham 1))
   unfolding call_of goes_on told Fitting SameData Undisturbed begins at_rest begun opened settled entry_of steps opening_of in_bounds_of first_of action_of exchange_for exchange_of ready_of fits_of advanced_of taken_in given_scratch with_command delivered_by next_of after_phase
-  answers-same = refl
+  same-answers = refl
 
-  abbrev byte_of_answer : Answer → ℕ
-  byte_of_answer (Answer.Byte b) = b
-  byte_of_answer _ = 2
-
-  reads-zero : byte_of_answer (last_answer (told (reads nor_driver 0))) ≡ 0
+  reads-zero : last_value answer_values (told (reads nor_driver 0)) ≡ 0
   unfolding call_of goes_on told Fitting SameData Undisturbed begins at_rest begun opened settled entry_of steps opening_of in_bounds_of first_of action_of exchange_for exchange_of ready_of fits_of advanced_of taken_in given_scratch with_command delivered_by next_of after_phase
   reads-zero = refl
 
-  reads-one : byte_of_answer (last_answer (told (reads nor_driver 1))) ≡ 1
+  reads-one : last_value answer_values (told (reads nor_driver 1)) ≡ 1
   unfolding call_of goes_on told Fitting SameData Undisturbed begins at_rest begun opened settled entry_of steps opening_of in_bounds_of first_of action_of exchange_for exchange_of ready_of fits_of advanced_of taken_in given_scratch with_command delivered_by next_of after_phase
   reads-one = refl
 
   one-result-fails : SameAsRust sham → ⊥
-  one-result-fails kept =
-      let same = sym (answers-alike kept 0) ∙ answers-same ∙ answers-alike kept 1 in
-      let bytes = ap byte_of_answer same in
-      omega (arith, reads-zero, reads-one, bytes)
+  one-result-fails kept = omega (arith, reads-zero, reads-one, alike kept 0, same-answers, alike kept 1)
 
 -- ---- all of them
 
