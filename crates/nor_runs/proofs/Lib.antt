@@ -13,3 +13,8 @@ pub mod Openings
 pub mod Is
 pub mod Promises
 pub mod Shams
+pub mod SeenTransfers
+pub mod Pieces
+pub mod SeenRead
+pub mod SeenWrite
+pub mod Chip

@@ -3,7 +3,7 @@
 use Rattle.std.specs.Prelude.{Ok, Err}
 use Rattle.qspi.specs.Frame.{Outcome}
 use Rattle.flash_runs.proofs.Promises.{promises}
-use Rattle.flash_runs.proofs.Supplies.{Supplies}
+use Rattle.flash_runs.proofs.Supplies.{Supplies, Known}
 use Rattle.nor_driver.specs.Next.{next_of}
 use Rattle.spi_nor.specs.declared.phase.Phase.{Phase}
 use Rattle.spi_nor.specs.declared.setup.Setup.{Setup}
@@ -22,7 +22,7 @@ unfolding next_of
 stays-next s phase (Ok v) h = keeps-built (Stays s) s (stays s) phase h v
 stays-next s phase (Err error) h = tt
 
-supplies : Supplies nor_driver nor_parts Valid Built meaning
+pub supplies : Supplies nor_driver nor_parts Valid Built meaning
 supplies = record {
   simulates = simulates;
   opens = opened;
@@ -33,6 +33,9 @@ supplies = record {
   ends_well = λ flash call b given inside small asks can. let e = ends flash call b given inside small asks can in (_, e.0, e.1);
   lent = lent;
 }
+
+abbrev pub known : Known nor_driver
+known = record { P = Phase; parts = nor_parts; Valid = Valid; Built = Built; meaning = meaning; supplies = supplies; is = nor-is }
 
 pub nor-promises : NorPromises
 nor-promises = promises nor_driver nor_parts Valid Built meaning supplies nor-is

@@ -1,7 +1,8 @@
 //! What holds of the NOR driver over whole runs: specs/ and proofs/, and a function for each theorem.
 #![tactic(auto)]
 
-ghost use Rattle.nor_runs.specs.Run.{NorPromises};
+ghost use Rattle.nor_runs.specs.Chip.{DeliversTheChip};
+ghost use Rattle.nor_runs.specs.Run.{nor_driver, NorPromises};
 ghost use Rattle.nor_runs.specs.Shams.{NorShamsFail};
 
 /// Over every run of the NOR driver: who is refused and why, what happens to lent bytes, that every action, result and delivered byte
@@ -14,4 +15,11 @@ pub fn nor_promises()
 /// gives the same result whatever was read, or has a bound that is no sum of its delays.
 pub fn nor_shams_fail()
     ensures { NorShamsFail }
+{}
+
+/// Over any contents of the chip and every run of the NOR driver: a read delivers the chip's bytes from its offset on, at every step
+/// and, when it ends well, all of them, as the bytes on the bus tell; and a write that ends well has read back the data from the places
+/// written, each page as it was lent when it was compared.
+pub fn nor_delivers_the_chip()
+    ensures { DeliversTheChip nor_driver }
 {}

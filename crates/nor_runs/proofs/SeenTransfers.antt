@@ -1,0 +1,166 @@
+-- What the observer sees of the Rust's transfers that a read and a write are made of.
+use Rattle.std.specs.Prelude.{Option, Some, None}
+use Rattle.spi_nor.specs.declared.config.NorQuadConfig.{NorQuadConfig}
+use Prim.Native.Nat.{ℕ, zero, suc, ◌+◌, ◌/◌, ◌%◌, ◌≤◌, ◌<◌}
+use native.Mathlib.Omega.{arith}
+use mathlib.Core.Bool.{true, not}
+use mathlib.Core.Path.{◌≡◌, refl, ap, sym, subst}
+use mathlib.Core.List.{List, [], ◌∷◌, ◌++◌}
+use lib.ListN.{length}
+use lib.Dec.{leb}
+use borrow.Author.Tests.{eq-eqb}
+use Rattle.qspi.specs.Address.{read_from}
+use Rattle.qspi.specs.Frame.{value_of}
+use Rattle.qspi.specs.Transfer.{command_only}
+use Rattle.qspi.specs.declared.command.Command.{Command}
+use Rattle.qspi.specs.declared.transfer.Sink.{Sink}
+use Rattle.qspi.specs.declared.transfer.Transfer.{Transfer}
+use Rattle.qspi.proofs.Cases.{by_cases}
+use Rattle.spi_flash.specs.Number.{number_transfer}
+use Rattle.spi_flash.specs.Prog.{Prog, ◌>>=◌, ◌>>◌, transfer}
+use Rattle.spi_flash.specs.WaitLaw.{wait_loop, waiting, prompt_wait}
+use Rattle.spi_flash.specs.declared.wait.Timings.{Timings}
+use Rattle.flash_runs.specs.Watch.{Watcher}
+use Rattle.flash_runs.proofs.Watchers.{both, Got, got, behind, reader}
+use Rattle.flash_runs.proofs.Watching.{Shows, shows-ret, shows-fail, shows-bind, shows-refuse, shows-transfer}
+use Rattle.qspi.specs.Command.{command_bytes}
+use Rattle.spi_nor.specs.Command.{quad_read_command, write_enable_command, read_status1_command}
+use Rattle.spi_nor.specs.Opcode.{timings_of}
+use Rattle.spi_nor.specs.Status.{write_enabled_of}
+use Rattle.spi_nor.specs.Transfer.{read_at, program_at, program_transfer}
+use Rattle.spi_nor.specs.declared.opcode.Operation.{Operation}
+use Rattle.spi_nor.specs.declared.setup.Setup.{Setup}
+use Rattle.nor_runs.specs.Observer.{closed, written, quad_place, Piece, piece, with_piece, Sight, sight, observer}
+use Rattle.nor_runs.specs.Rust.{busy_value, wait-ready, write-enable}
+
+abbrev pub Sights : Type 0
+Sights = Sight × Got
+
+-- an address is sent whole
+address-exact : (place : ℕ) → place < 16777216 → read_from 0 (place / 65536 % 256 ∷ place / 256 % 256 ∷ place % 256 ∷ []) ≡ place
+address-exact place h = omega arith
+
+place-asked : (quad : NorQuadConfig) (place : ℕ) → place < 16777216 → quad_place (Some quad) (written []) (command_bytes (quad_read_command quad place)) ≡ Some place
+place-asked quad place h = rw (eq-eqb quad.read_opcode quad.read_opcode refl) (ap Some (address-exact place h))
+
+-- between two transfers, with these pieces; whose data the last command asked for, and the bytes read so far
+abbrev pub seen : List Piece → Sight
+seen pieces = sight closed None pieces
+
+abbrev pub at : List Piece → Got → Sights
+at pieces g = (seen pieces, g)
+
+module _ (quad : Option NorQuadConfig) where
+  abbrev pub watcher : Watcher Sights
+  watcher = both (observer quad) (reader (λ command. true))
+
+  -- Q goes by the pieces and the bytes read
+  module _ (R : List Piece → List ℕ → Type 0) where
+    abbrev pub Q : Sights → Type 0
+    Q z = R z.0.pieces z.1.bytes
+
+    abbrev pub Sees : {A : Type 0} → (A → Sights → Type 0) → Sights → Prog A → Type 0
+    Sees E z p = Shows watcher Q E z p
+
+    pub from : {A : Type 0} {E : A → Sights → Type 0} {y z : Sights} {p : Prog A} → y ≡ z → Sees E z p → Sees E y p
+    from {E = E} {p = p} e h = subst (λ s. Sees E s p) (sym e) h
+
+    -- ---- a read of the contents
+
+    module _ (place n : ℕ) (small : place < 16777216) (sink : Sink) (pieces : List Piece) (g : Got) (q : R pieces g.bytes) where
+      -- the bytes that came, beside these data, with the value that they gave
+      abbrev pub Came : ℕ → Sights → Type 0
+      Came v y = (new given : List ℕ) × (length new ≡ n) × (v ≡ value_of sink new given) × (y ≡ at (pieces ++ piece place new given ∷ []) (got true (g.bytes ++ new)))
+
+      -- without data nothing has come
+      none : (asked : Option ℕ) → R (with_piece asked [] [] pieces) g.bytes
+      none None = q
+      none (Some p) = q
+
+      module _ (some : 1 ≤ n) (more : (new given : List ℕ) → length new ≡ n → R (pieces ++ piece place new given ∷ []) (g.bytes ++ new)) where
+        abbrev heard : Option ℕ → (new given : List ℕ) → Sights
+        heard asked new given = at (with_piece asked given new pieces) (got true (behind true g.bytes new))
+
+        heard-is : (asked : Option ℕ) → asked ≡ Some place → (new given : List ℕ) → length new ≡ n → heard asked new given ≡ at (pieces ++ piece place new given ∷ []) (got true (g.bytes ++ new))
+        heard-is asked a [] given e = absurd (omega arith)
+        heard-is asked a (b ∷ new) given e = ap (λ x. at (with_piece x given (b ∷ new) pieces) (got true (g.bytes ++ b ∷ new))) a
+
+        came : (asked : Option ℕ) → asked ≡ Some place → (new given : List ℕ) → length new ≡ n →
+            Q (heard asked new given) × (Q (heard asked new given) × Came (value_of sink new given) (heard asked new given))
+        came asked a new given e =
+            let is = heard-is asked a new given e in
+            let right : Q (heard asked new given) = subst Q (sym is) (more new given e) in
+            (right, (right, (new, given, e, refl, is)))
+
+        pub reading : Sees Came (at pieces g) (transfer (read_at quad place n sink))
+        reading = at_width quad
+          where
+            at_width : (q : Option NorQuadConfig) → Shows (both (observer q) (reader (λ command. true))) Q Came (at pieces g) (transfer (read_at q place n sink))
+            at_width None =
+                shows-transfer _ Q (read_at None place n sink)
+                (q, (q, ((q, q), (q, ((q, q), (λ new given e. came _ (ap Some (address-exact place small)) new given e))))))
+            at_width (Some x) =
+                shows-transfer _ Q (read_at (Some x) place n sink)
+                (q, (q, ((none _, none _), (λ new given e. came _ (place-asked x place small) new given e))))
+
+    -- ---- what a write does beside: no byte of the contents is asked for
+
+    module _ (pieces : List Piece) (q : (bytes : List ℕ) → R pieces bytes) where
+      -- a program behind which these pieces are still all
+      abbrev pub Quiet : {A : Type 0} → Got → Prog A → Type 0
+      Quiet g p = Sees (λ a y. y.0 ≡ seen pieces) (at pieces g) p
+
+      pub quiet-bind : {A B : Type 0} {E : B → Sights → Type 0} {g : Got} {p : Prog A} {k : A → Prog B} → Quiet g p → ((a : A) (h : Got) → Sees E (at pieces h) (k a)) → Sees E (at pieces g) (p >>= k)
+      quiet-bind {E = E} {k = k} first next =
+          shows-bind watcher Q first (λ a y e. from (ap (λ (s : Sight). (s, y.1)) e) (next a y.1))
+
+      pub quiet-then : {A B : Type 0} {E : B → Sights → Type 0} {g : Got} {p : Prog A} {k : Prog B} → Quiet g p → ((h : Got) → Sees E (at pieces h) k) → Sees E (at pieces g) (p >> k)
+      unfolding ◌>>◌
+      quiet-then first next = quiet-bind first (λ a h. next h)
+
+      pause : (g : Got) (us : ℕ) → Quiet g (transfer (Transfer.Pause us))
+      pause g us = shows-transfer watcher Q (Transfer.Pause us) (q _, (q _, refl))
+
+      command : (g : Got) (c : Command) → Quiet g (transfer (command_only c))
+      command g c = shows-transfer watcher Q (command_only c) (q _, (q _, (q _, (q _, refl))))
+
+      look : (g : Got) → Quiet g (transfer (number_transfer read_status1_command 1))
+      look g =
+          shows-transfer watcher Q (number_transfer read_status1_command 1)
+          (q _, (q _, ((q _, q _), (q _, ((q _, q _), (λ new given e. (q _, (q _, refl))))))))
+
+      program : (place from n : ℕ) (g : Got) → Quiet g (transfer (program_at quad place from n))
+      program place from n g = at_width quad
+        where
+          at_width : (w : Option NorQuadConfig) → Shows watcher Q (λ a y. y.0 ≡ seen pieces) (at pieces g) (transfer (program_at w place from n))
+          at_width None =
+              shows-transfer watcher Q (program_at None place from n)
+              (q _, (q _, ((q _, q _), (λ given. (q _, (q _, (q _, refl)))))))
+          at_width (Some x) = shows-transfer watcher Q (program_at (Some x) place from n) (q _, (λ given. (q _, (q _, (q _, refl)))))
+
+      wait-loop : (timings : Timings) (fuel sum : ℕ) (g : Got) → Quiet g (wait_loop read_status1_command busy_value fuel timings sum)
+      unfolding wait_loop
+      wait-loop timings zero sum g = shows-fail watcher Q
+      wait-loop timings (suc fuel) sum g =
+          quiet-bind (look g) (λ v h.
+          by_cases (busy_value v)
+          (λ busy. rw busy
+          (by_cases (leb timings.timeout_us sum)
+          (λ late. rw late (shows-fail watcher Q))
+          (λ early. rw early (quiet-then (pause h timings.poll_us) (λ k. wait-loop timings fuel (sum + timings.poll_us) k)))))
+          (λ ready. rw ready (shows-ret watcher Q refl)))
+
+      pub wait : (operation : Operation) (g : Got) → Quiet g (wait-ready operation)
+      unfolding wait-ready prompt_wait waiting
+      wait operation g = wait-loop (timings_of operation) _ 0 g
+
+      pub enable : (g : Got) → Quiet g write-enable
+      unfolding write-enable
+      enable g =
+          quiet-then (command g write_enable_command) (λ h.
+          quiet-bind (quiet-bind (look h) (λ v k. shows-ret watcher Q refl)) (λ status1 k.
+          shows-refuse watcher Q (not (write_enabled_of status1)) _ (λ e. refl)))
+
+      pub program_sent : (setup : Setup) → setup.config.quad ≡ quad → (place from n : ℕ) (g : Got) → Quiet g (transfer (program_transfer setup place from n))
+      unfolding program_transfer
+      program_sent setup e place from n g = rw e (program place from n g)

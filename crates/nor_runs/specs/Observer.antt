@@ -1,0 +1,92 @@
+-- What is seen of a NOR from outside: the reads of its contents, told from the bytes on the bus alone, and what came back to them
+-- (docs/SPECIFICATION.md, "Reads on the bus"). The watcher knows nothing of the driver; beside the bytes it knows the opcode that the
+-- caller has chosen for quad reads.
+use Rattle.std.specs.Prelude.{ℕ, ◌==◌, List, [], ◌∷◌, ◌++◌, Option, Some, None, if◌then◌else◌}
+use Rattle.qspi.specs.Address.{read_from}
+use Rattle.qspi.specs.Shown.{Shown, low, high, write, read, quad_read, quad_write, delay}
+use Rattle.flash_runs.specs.Watch.{Watcher}
+use Rattle.spi_nor.specs.Opcode.{READ}
+use Rattle.spi_nor.specs.declared.config.NorQuadConfig.{NorQuadConfig}
+
+-- ---- the frame
+
+-- what the part has taken since select went low: select is high; these bytes; or they, and then it has read or done a quad call
+pub data Frame : Type 0 where
+  closed : Frame
+  written : List ℕ → Frame
+  used : Frame
+
+abbrev pub wrote : Frame → List ℕ → Frame
+wrote closed bytes = closed
+wrote (written before) bytes = written (before ++ bytes)
+wrote used bytes = used
+
+abbrev pub frame_after : Shown → Frame → Frame
+frame_after low frame = written []
+frame_after high frame = closed
+frame_after (write bytes) frame = wrote frame bytes
+frame_after (read n) frame = used
+frame_after (quad_read command tclqv margin n) frame = used
+frame_after (quad_write command payload) frame = used
+frame_after (delay us) frame = frame
+
+-- ---- what is asked of the contents
+
+-- an opcode and three address bytes, highest first: the place
+abbrev pub place_in : (opcode : ℕ) → List ℕ → Option ℕ
+place_in opcode (first ∷ a ∷ b ∷ c ∷ []) = if first == opcode then Some (read_from 0 (a ∷ b ∷ c ∷ [])) else None
+place_in opcode _ = None
+
+-- a read behind the command 03, where nothing else was written in the frame
+abbrev pub read_place : Frame → Option ℕ
+read_place closed = None
+read_place (written bytes) = place_in READ bytes
+read_place used = None
+
+-- a quad read, alone in its frame, with the caller's opcode
+abbrev pub quad_place : Option NorQuadConfig → Frame → List ℕ → Option ℕ
+quad_place (Some quad) (written []) command = place_in quad.read_opcode command
+quad_place _ _ command = None
+
+abbrev pub asks : Option NorQuadConfig → Shown → Frame → Option ℕ
+asks quad (read n) frame = read_place frame
+asks quad (quad_read command tclqv margin n) frame = quad_place quad frame command
+asks quad _ frame = None
+
+-- ---- what came back
+
+-- the bytes of one data reply, from which place on, and the caller's data lent beside them
+pub record Piece : Type 0 where
+  pub place : ℕ
+  pub bytes : List ℕ
+  pub given : List ℕ
+
+abbrev pub piece : ℕ → (bytes given : List ℕ) → Piece
+piece place bytes given = record { place = place; bytes = bytes; given = given }
+
+-- a reply without data is none
+abbrev pub with_piece : Option ℕ → (given bytes : List ℕ) → List Piece → List Piece
+with_piece None given bytes before = before
+with_piece (Some place) given [] before = before
+with_piece (Some place) given (b ∷ bytes) before = before ++ piece place (b ∷ bytes) given ∷ []
+
+-- ---- the watcher
+
+pub record Sight : Type 0 where
+  pub frame : Frame
+  -- the place that the action that is out asks for
+  pub asked : Option ℕ
+  pub pieces : List Piece
+
+abbrev pub sight : Frame → Option ℕ → List Piece → Sight
+sight frame asked pieces = record { frame = frame; asked = asked; pieces = pieces }
+
+-- before a run
+abbrev pub unseen : Sight
+unseen = sight closed None []
+
+abbrev pub observer : Option NorQuadConfig → Watcher Sight
+observer quad = record {
+  gives = λ shown s. sight (frame_after shown s.frame) (asks quad shown s.frame) s.pieces;
+  hears = λ given bytes s. sight s.frame None (with_piece s.asked given bytes s.pieces);
+}
