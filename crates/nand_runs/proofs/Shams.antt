@@ -1,17 +1,23 @@
 -- Each sham run breaks a part of `ReadSeen`, by computation.
 use Prim.Native.Nat.{ℕ}
 use native.Mathlib.Omega.{arith}
-use mathlib.Core.Bool.{true≢false}
-use mathlib.Core.Path.{refl, ap}
+use mathlib.Core.Bool.{Bool, true≢false}
+use mathlib.Core.Path.{◌≡◌, refl, ap, sym, subst}
 use mathlib.Core.List.{List, [], ◌∷◌}
 use lib.ListN.{length}
 use lib.Dec.{eqb}
-use Rattle.spi_flash.specs.Run.{delay_asked}
+use Rattle.qspi.specs.Shown.{Shown}
+use Rattle.spi_flash.specs.Run.{Event, reply, act, entry, goes_on, call_of, delay_asked}
+use Rattle.flash_runs.specs.Driver.{steps_at}
+use Rattle.spi_nand.specs.Config.{W25N01GV}
+use Rattle.spi_nand.specs.declared.call.Call.{Call}
 use Rattle.flash_runs.specs.Reading.{bytes_read}
 use Rattle.flash_runs.specs.Watch.{watched, Succeeded}
 use Rattle.nand_runs.specs.Bound.{pages_touched}
 use Rattle.nand_runs.specs.Observer.{ReadByte, read_byte}
-use Rattle.nand_runs.specs.Shams.{ShamsRuledOut}
+use Rattle.nand_runs.specs.Promises.{ReadsAsAsked}
+use Rattle.nand_runs.specs.ReadSeen.{ReadSeen}
+use Rattle.nand_runs.specs.Shams.{Exchange, two_places, success, gave, asked_to_read, run_from, claimed, at_rest, played, actor, actions_in, Ruled, LawfulRuns, ShamRuns, ShamsRuledOut}
 
 -- ---- what tells two lists apart
 
@@ -31,23 +37,94 @@ abbrev second_byte : List ReadByte → ReadByte
 second_byte [] = read_byte 0 0 0
 second_byte (x ∷ xs) = first_byte xs
 
-pub shams-ruled-out : ShamsRuledOut
+-- ---- runs
+
+lawful : LawfulRuns
 unfolding watched Succeeded bytes_read delay_asked pages_touched
-shams-ruled-out = record {
-  allowed = record {
-    loads = record { rest = []; whole = refl };
-    reads = refl;
-    in_order = refl;
-    whole = λ e. record { loads = refl; verdicts = refl; correctable = (refl, (refl, tt)); filled = refl; least = omega arith; most = omega arith };
-  };
+lawful =
+    record {
+      true-run = record {
+        loads = record { rest = []; whole = refl };
+        reads = refl;
+        in_order = refl;
+        whole = λ e. record { loads = refl; verdicts = refl; correctable = (refl, (refl, tt)); filled = refl; least = omega arith; most = omega arith };
+      };
+      looked-again = record {
+        loads = record { rest = []; whole = refl };
+        reads = refl;
+        in_order = refl;
+        whole = λ e. record { loads = refl; verdicts = refl; correctable = (refl, (refl, tt)); filled = refl; least = omega arith; most = omega arith };
+      };
+      looked-before = record {
+        loads = record { rest = []; whole = refl };
+        reads = refl;
+        in_order = refl;
+        whole = λ e. record { loads = refl; verdicts = refl; correctable = (refl, (refl, tt)); filled = refl; least = omega arith; most = omega arith };
+      };
+      wait-is-no-verdict = record {
+        loads = record { rest = []; whole = refl };
+        reads = refl;
+        in_order = refl;
+        whole = λ e. record { loads = refl; verdicts = refl; correctable = (refl, (refl, tt)); filled = refl; least = omega arith; most = omega arith };
+      };
+    }
+
+page-is-0 : List ReadByte → Bool
+page-is-0 xs = eqb (second_byte xs).page 0
+
+ruled : ShamRuns
+unfolding watched Succeeded bytes_read delay_asked pages_touched page-is-0
+ruled = record {
   no-traffic = λ h. true≢false (ap (λ xs. eqb (length xs) 0) (h.whole tt).loads);
   rest-claimed = λ h. true≢false (ap (λ xs. eqb (length xs) 1) (h.whole tt).loads);
-  load-skipped = λ h. true≢false (ap (λ xs. eqb (second_byte xs).page 0) h.reads);
+  load-skipped = λ h. true≢false (ap page-is-0 h.reads);
   loaded-twice = λ h. true≢false (ap (λ xs. eqb (second xs) 0) h.loads.whole);
   other-order = λ h. true≢false (ap (λ xs. eqb (first xs) 1) h.loads.whole);
+  short-address = λ h. true≢false (ap page-is-0 h.reads);
+  long-address = λ h. true≢false (ap page-is-0 h.reads);
+  second-write = λ h. true≢false (ap page-is-0 h.reads);
+  unselected-load = λ h. true≢false (ap page-is-0 h.reads);
+  before-look = λ h. true≢false (ap (λ xs. eqb (length xs) 1) h.reads);
   before-verdict = λ h. true≢false (ap (λ xs. eqb (length xs) 1) h.reads);
+  busy-part = λ h. true≢false (ap (λ xs. eqb (length xs) 1) h.reads);
+  no-register = λ h. true≢false (ap (λ xs. eqb (length xs) 1) h.reads);
+  long-register = λ h. true≢false (ap (λ xs. eqb (length xs) 1) h.reads);
+  other-register = λ h. true≢false (ap (λ xs. eqb (length xs) 1) h.reads);
+  second-command = λ h. true≢false (ap (λ xs. eqb (length xs) 1) h.reads);
+  unselected-look = λ h. true≢false (ap (λ xs. eqb (length xs) 1) h.reads);
+  look-behind = λ h. true≢false (ap (λ xs. eqb (length xs) 1) h.reads);
   uncorrectable-delivered = λ h. true≢false (h.whole tt).correctable.0;
+  second-opinion = λ h. true≢false (h.whole tt).correctable.0;
   other-column = λ h. true≢false (ap (λ xs. eqb (first_byte xs).column 0) h.reads);
+  short-column = λ h. true≢false (ap (λ n. eqb n 1) (h.whole tt).filled);
+  overtaken-byte = λ h. true≢false (sym h.in_order);
   no-delay = λ h. omega (arith, (h.whole tt).least);
   long-delay = λ h. omega (arith, (h.whole tt).most);
 }
+
+-- ---- drivers
+
+events : List Exchange → List (Event Call)
+events [] = []
+events (x ∷ xs) = reply x.kind x.bytes two_places ∷ events xs
+
+-- behind an action that is out
+module _ (own : List Shown) where
+  plays : (event : Event Call) (xs : List Exchange) →
+      entry event (played (actions_in xs) two_places) ∷ goes_on (actor own).system (played (actions_in xs) two_places).flash (events xs) ≡
+      run_from event xs (λ last. gave last success ∷ [])
+  unfolding goes_on events
+  plays event [] = refl
+  plays event (x ∷ xs) = ap (λ rest. gave event (act x.shown) ∷ rest) (plays (reply x.kind x.bytes two_places) xs)
+
+begins : (xs : List Exchange) → steps_at (actor (actions_in xs)) at_rest (Call.Read 2047) two_places (events xs) ≡ claimed xs
+unfolding call_of goes_on events
+begins [] = refl
+begins (x ∷ xs) = ap (λ rest. gave asked_to_read (act x.shown) ∷ rest) (plays (actions_in (x ∷ xs)) (reply x.kind x.bytes two_places) xs)
+
+drivers : (xs : List Exchange) → Ruled (claimed xs) → ReadsAsAsked (actor (actions_in xs)) → ⊥
+drivers xs rule kept =
+    rule (subst (λ ys. ReadSeen ys W25N01GV 2047 2) (begins xs) (kept.read at_rest 2047 two_places (events xs) refl))
+
+pub shams-ruled-out : ShamsRuledOut
+shams-ruled-out = record { lawful = lawful; runs = ruled; drivers = drivers }

@@ -1,13 +1,24 @@
--- Runs that sham drivers would show (document 01, "These sham drivers may not prove"), each a read of 2 bytes at 2,047 of a W25N01GV:
--- the last byte of page 0 and the first of page 1. `ReadSeen` allows the run of a true driver and none of these.
-use Rattle.std.specs.Prelude.{ℕ, List, [], ◌∷◌, ◌++◌}
+-- Sham runs and sham drivers of a NAND read (docs/SPECIFICATION.md, "Shams" and "Reads on the bus"), each of 2 bytes at 2,047 of a
+-- W25N01GV: the last byte of page 0 and the first of page 1. `ReadSeen` allows the run of a true driver, and none of the shams. Each
+-- lawful run beside a sham differs from it in one thing, so that every part of the observer is needed to tell them apart.
+use Rattle.std.specs.Prelude.{ℕ, Bool, true, false, List, [], ◌∷◌, ◌++◌}
 use Rattle.qspi.specs.Shown.{Shown, low, high, write, read, delay}
 use Rattle.qspi.specs.declared.bus.Reply.{Reply}
 use Rattle.spi_flash.specs.Loan.{Lent}
-use Rattle.spi_flash.specs.Run.{Event, reply, call, Given, act, ended, Entry}
-use Rattle.spi_nand.specs.Config.{W25N01GV}
-use Rattle.spi_nand.specs.Opcode.{GET-FEATURE, REG-STATUS, PAGE-READ, READ-CACHE}
+use Rattle.spi_flash.specs.Run.{Event, reply, call, Given, act, ended, refused, Entry, Moved}
+use Rattle.spi_flash.specs.declared.error.FlashError.{FlashError}
+use Rattle.flash_runs.specs.Driver.{leaving, Driver}
+use Rattle.flash_runs.specs.Shams.{in_place}
+use Rattle.spi_nand.specs.Config.{W25N01GV, single_config}
+use Rattle.spi_nand.specs.Opcode.{GET-FEATURE, REG-STATUS, REG-CONFIGURATION, PAGE-READ, READ-CACHE, LOAD-PROGRAM-DATA}
+use Rattle.spi_nand.specs.declared.answer.Answer.{Answer}
+use Rattle.spi_nand.specs.declared.call.Call.{Call}
+use Rattle.spi_nand.specs.declared.setup.Setup.{Setup}
+use Rattle.nand_driver.specs.Call.{fresh_setup}
+use Rattle.nand_runs.specs.Program.{Left}
+use Rattle.nand_runs.specs.Promises.{ReadsAsAsked}
 use Rattle.nand_runs.specs.ReadSeen.{ReadSeen}
+use Rattle.nand_runs.specs.Run.{nand_driver}
 
 -- ---- how a run is written down
 
@@ -23,23 +34,34 @@ done shown = record { shown = shown; kind = Reply.Done; bytes = [] }
 abbrev pub got : List ℕ → ℕ → Exchange
 got bytes n = record { shown = read n; kind = Reply.Data; bytes = bytes }
 
--- nothing is lent: the observer looks at actions and replies alone
-abbrev pub nothing : Lent
-nothing = record { scratch = []; buffer = []; given = [] }
+-- a buffer for the two bytes; the observer looks at actions and replies alone
+abbrev pub two_places : Lent
+two_places = record { scratch = []; buffer = 0 ∷ 0 ∷ []; given = [] }
+
+-- a driver of a W25N01GV, and the success that it claims
+abbrev pub held : Setup
+held = record (fresh_setup single_config) { geometry = W25N01GV }
+
+abbrev pub success : Given Left
+success = ended (leaving held Answer.Done)
 
 abbrev pub Seen : Type 0
-Seen = Entry (Unit {0}) (Unit {0})
+Seen = Entry Call Left
 
-abbrev pub gave : Event (Unit {0}) → Given (Unit {0}) → Seen
-gave event given = record { event = event; given = given; left = nothing }
+abbrev pub gave : Event Call → Given Left → Seen
+gave event given = record { event = event; given = given; left = two_places }
 
--- the exchanges one after the other, then a good end
-abbrev pub run_from : Event (Unit {0}) → List Exchange → List Seen
-run_from event [] = gave event (ended tt) ∷ []
-run_from event (x ∷ xs) = gave event (act x.shown) ∷ run_from (reply x.kind x.bytes nothing) xs
+abbrev pub asked_to_read : Event Call
+asked_to_read = call (Call.Read 2047) two_places
 
+-- the exchanges one after the other, then what follows
+abbrev pub run_from : Event Call → List Exchange → (Event Call → List Seen) → List Seen
+run_from event [] rest = rest event
+run_from event (x ∷ xs) rest = gave event (act x.shown) ∷ run_from (reply x.kind x.bytes two_places) xs rest
+
+-- and then a good end
 abbrev pub claimed : List Exchange → List Seen
-claimed xs = run_from (call tt nothing) xs
+claimed xs = run_from asked_to_read xs (λ event. gave event success ∷ [])
 
 -- ---- what a run is made of
 
@@ -49,8 +71,11 @@ command bytes = done low ∷ done (write bytes) ∷ done high ∷ []
 abbrev pub asked : List ℕ → List ℕ → ℕ → List Exchange
 asked bytes answer n = done low ∷ done (write bytes) ∷ got answer n ∷ done high ∷ []
 
+abbrev pub load_command : ℕ → List ℕ
+load_command page = PAGE-READ ∷ 0 ∷ 0 ∷ page ∷ []
+
 abbrev pub load : ℕ → List Exchange
-load page = command (PAGE-READ ∷ 0 ∷ 0 ∷ page ∷ [])
+load page = command (load_command page)
 
 abbrev pub paused : ℕ → List Exchange
 paused us = done (delay us) ∷ []
@@ -65,52 +90,178 @@ last_byte = asked (READ-CACHE ∷ 7 ∷ 255 ∷ 0 ∷ []) (161 ∷ []) 1
 abbrev pub first_byte : List Exchange
 first_byte = asked (READ-CACHE ∷ 0 ∷ 0 ∷ 0 ∷ []) (178 ∷ []) 1
 
--- a load with its delay, the look that ends its wait, and its verdict
-abbrev pub loaded : ℕ → ℕ → List Exchange
-loaded page verdict = load page ++ paused 10 ++ status 0 ++ status verdict
+-- a load's delay and the look that ends its wait; then its verdict
+abbrev pub waited : List Exchange
+waited = paused 10 ++ status 0
 
--- ---- the true run, and the shams
+abbrev pub loaded : ℕ → ℕ → List Exchange
+loaded page verdict = load page ++ waited ++ status verdict
+
+-- all that is to be read of either page
+abbrev pub page_0 : List Exchange
+page_0 = loaded 0 0 ++ last_byte
+
+abbrev pub page_1 : List Exchange
+page_1 = loaded 1 0 ++ first_byte
+
+-- ---- lawful runs
 
 abbrev pub true_run : List Seen
-true_run = claimed (loaded 0 0 ++ last_byte ++ loaded 1 0 ++ first_byte)
+true_run = claimed (page_0 ++ page_1)
 
--- "success with no bus traffic"
+-- looks behind a verdict mean nothing: neither a part that is busy again, nor other bits 5 and 4
+abbrev pub looked_again : List Seen
+looked_again = claimed (loaded 0 0 ++ status 33 ++ status 32 ++ last_byte ++ loaded 1 0 ++ status 1 ++ first_byte)
+
+-- nor do looks before any load
+abbrev pub looked_before : List Seen
+looked_before = claimed (status 32 ++ status 32 ++ page_0 ++ page_1)
+
+-- the look that ends a wait is no verdict
+abbrev pub wait_is_no_verdict : List Seen
+wait_is_no_verdict = claimed (load 0 ++ paused 10 ++ status 32 ++ status 0 ++ last_byte ++ page_1)
+
+-- ---- shams
+
+-- success without traffic
 abbrev pub no_traffic : List Seen
 no_traffic = claimed []
 
--- "first page loaded, the rest claimed"
+-- the first page loaded, the rest claimed
 abbrev pub rest_claimed : List Seen
-rest_claimed = claimed (loaded 0 0 ++ last_byte)
+rest_claimed = claimed page_0
 
--- a page's load skipped
+-- a page's load skipped; a page loaded twice; the pages in the other order
 abbrev pub load_skipped : List Seen
-load_skipped = claimed (loaded 0 0 ++ last_byte ++ first_byte)
+load_skipped = claimed (page_0 ++ first_byte)
 
--- a page loaded twice; the pages in the other order
 abbrev pub loaded_twice : List Seen
-loaded_twice = claimed (load 0 ++ loaded 0 0 ++ last_byte ++ loaded 1 0 ++ first_byte)
+loaded_twice = claimed (load 0 ++ page_0 ++ page_1)
 
 abbrev pub other_order : List Seen
-other_order = claimed (loaded 1 0 ++ first_byte ++ loaded 0 0 ++ last_byte)
+other_order = claimed (page_1 ++ page_0)
 
--- a page copied before its verdict
+-- a load told by two or four address bytes; one in the second write of its frame; one written while select is high
+abbrev pub page_1_by : List Exchange → List Seen
+page_1_by own = claimed (page_0 ++ own ++ waited ++ status 0 ++ first_byte)
+
+abbrev pub short_address : List Seen
+short_address = page_1_by (command (PAGE-READ ∷ 0 ∷ 1 ∷ []))
+
+abbrev pub long_address : List Seen
+long_address = page_1_by (command (PAGE-READ ∷ 0 ∷ 0 ∷ 0 ∷ 1 ∷ []))
+
+abbrev pub second_write : List Seen
+second_write = page_1_by (done low ∷ done (write (LOAD-PROGRAM-DATA ∷ 0 ∷ 0 ∷ [])) ∷ done (write (load_command 1)) ∷ done high ∷ [])
+
+abbrev pub unselected_load : List Seen
+unselected_load = page_1_by (done (write (load_command 1)) ∷ [])
+
+-- a page copied before any look; before its verdict; while its part was busy
+abbrev pub page_0_behind : List Exchange → List Seen
+page_0_behind looks = claimed (load 0 ++ paused 10 ++ looks ++ last_byte ++ page_1)
+
+abbrev pub before_look : List Seen
+before_look = page_0_behind []
+
 abbrev pub before_verdict : List Seen
-before_verdict = claimed (load 0 ++ paused 10 ++ status 0 ++ last_byte ++ status 0 ++ loaded 1 0 ++ first_byte)
+before_verdict = page_0_behind (status 0)
 
--- a page with verdict 2 (bits 5 and 4 of 20) delivered
+abbrev pub busy_part : List Seen
+busy_part = page_0_behind (status 1 ++ status 0)
+
+-- a verdict asked by 0F alone, by a byte too many, or of another register; in the second write of its frame; while select is high, before
+-- it was low and behind
+abbrev pub verdict_by : List Exchange → List Seen
+verdict_by own = page_0_behind (status 0 ++ own)
+
+abbrev pub no_register : List Seen
+no_register = verdict_by (asked (GET-FEATURE ∷ []) (0 ∷ []) 1)
+
+abbrev pub long_register : List Seen
+long_register = verdict_by (asked (GET-FEATURE ∷ REG-STATUS ∷ 0 ∷ []) (0 ∷ []) 1)
+
+abbrev pub other_register : List Seen
+other_register = verdict_by (asked (GET-FEATURE ∷ REG-CONFIGURATION ∷ []) (0 ∷ []) 1)
+
+abbrev pub second_command : List Seen
+second_command = verdict_by (done low ∷ done (write (GET-FEATURE ∷ REG-CONFIGURATION ∷ [])) ∷ done (write (GET-FEATURE ∷ REG-STATUS ∷ [])) ∷ got (0 ∷ []) 1 ∷ done high ∷ [])
+
+abbrev pub unselected_look : List Seen
+unselected_look = verdict_by (done (write (GET-FEATURE ∷ REG-STATUS ∷ [])) ∷ got (0 ∷ []) 1 ∷ [])
+
+abbrev pub look_behind : List Seen
+look_behind = verdict_by (command (GET-FEATURE ∷ REG-STATUS ∷ []) ++ got (0 ∷ []) 1 ∷ [])
+
+-- a page with verdict 2 (bits 5 and 4 of 20) delivered; delivered after a second look
 abbrev pub uncorrectable : List Seen
-uncorrectable = claimed (loaded 0 32 ++ last_byte ++ loaded 1 0 ++ first_byte)
+uncorrectable = claimed (loaded 0 32 ++ last_byte ++ page_1)
 
--- a byte of another column
+abbrev pub second_opinion : List Seen
+second_opinion = claimed (loaded 0 32 ++ status 0 ++ last_byte ++ page_1)
+
+-- a byte of another column; one asked for by a single column byte
 abbrev pub other_column : List Seen
-other_column = claimed (loaded 0 0 ++ first_byte ++ loaded 1 0 ++ first_byte)
+other_column = claimed (loaded 0 0 ++ first_byte ++ page_1)
+
+abbrev pub short_column : List Seen
+short_column = claimed (page_0 ++ loaded 1 0 ++ asked (READ-CACHE ∷ 0 ∷ []) (178 ∷ []) 1)
+
+-- the next page loaded between the asking for a byte and its coming, by a call begun meanwhile
+abbrev pub overtaken : List Seen
+overtaken =
+    run_from asked_to_read (loaded 0 0 ++ done low ∷ done (write (READ-CACHE ∷ 7 ∷ 255 ∷ 0 ∷ [])) ∷ [])
+    (λ event. gave event (act (read 1)) ∷ run_from (call (Call.PageRead 1) two_places) (load 1) (λ next. gave next (act (delay 10)) ∷ []))
 
 -- a wait that never asked for its delay; one that asked too much
 abbrev pub no_delay : List Seen
-no_delay = claimed (load 0 ++ status 0 ++ status 0 ++ last_byte ++ loaded 1 0 ++ first_byte)
+no_delay = claimed (load 0 ++ status 0 ++ status 0 ++ last_byte ++ page_1)
 
 abbrev pub long_delay : List Seen
-long_delay = claimed (loaded 0 0 ++ paused 800000 ++ last_byte ++ loaded 1 0 ++ first_byte)
+long_delay = claimed (loaded 0 0 ++ paused 800000 ++ last_byte ++ page_1)
+
+-- ---- shams as drivers
+
+-- at rest, or with these actions to come behind the one that is out
+pub data Script : Type 0 where
+  at_rest : Script
+  playing : List Shown → Script
+
+abbrev pub is_playing : Script → Bool
+is_playing at_rest = false
+is_playing (playing actions) = true
+
+abbrev pub played : List Shown → Lent → Moved Script Left
+played [] l = record { given = success; flash = at_rest; left = l }
+played (shown ∷ actions) l = record { given = act shown; flash = playing actions; left = l }
+
+abbrev pub turned_away : Script → Lent → Moved Script Left
+turned_away script l = record { given = refused FlashError.OutOfTurn; flash = script; left = l }
+
+abbrev pub begun : List Shown → Script → Lent → Moved Script Left
+begun actions at_rest l = played actions l
+begun actions (playing rest) l = turned_away (playing rest) l
+
+abbrev pub replied : Script → Lent → Moved Script Left
+replied at_rest l = turned_away at_rest l
+replied (playing rest) l = played rest l
+
+-- whatever it is asked for and whatever comes back: it gives out these actions, then claims success
+abbrev pub actor : List Shown → Driver Script Call Setup Answer
+actor actions =
+    in_place nand_driver
+    (record {
+      system =
+          record { begin = λ script call l. begun actions script l; answer = λ script r bytes l. replied script l; running = is_playing };
+      setup = λ script. held;
+      built = λ script. true;
+      delivered = λ script buffer. [];
+      fresh = at_rest;
+    })
+
+abbrev pub actions_in : List Exchange → List Shown
+actions_in [] = []
+actions_in (x ∷ xs) = x.shown ∷ actions_in xs
 
 -- ---- the statement
 
@@ -120,15 +271,41 @@ Allowed xs = ReadSeen xs W25N01GV 2047 2
 abbrev pub Ruled : List Seen → Type 0
 Ruled xs = Allowed xs → ⊥
 
-pub record ShamsRuledOut : Type 0 where
-  pub allowed : Allowed true_run
+pub record LawfulRuns : Type 0 where
+  pub true-run : Allowed true_run
+  pub looked-again : Allowed looked_again
+  pub looked-before : Allowed looked_before
+  pub wait-is-no-verdict : Allowed wait_is_no_verdict
+
+pub record ShamRuns : Type 0 where
   pub no-traffic : Ruled no_traffic
   pub rest-claimed : Ruled rest_claimed
   pub load-skipped : Ruled load_skipped
   pub loaded-twice : Ruled loaded_twice
   pub other-order : Ruled other_order
+  pub short-address : Ruled short_address
+  pub long-address : Ruled long_address
+  pub second-write : Ruled second_write
+  pub unselected-load : Ruled unselected_load
+  pub before-look : Ruled before_look
   pub before-verdict : Ruled before_verdict
+  pub busy-part : Ruled busy_part
+  pub no-register : Ruled no_register
+  pub long-register : Ruled long_register
+  pub other-register : Ruled other_register
+  pub second-command : Ruled second_command
+  pub unselected-look : Ruled unselected_look
+  pub look-behind : Ruled look_behind
   pub uncorrectable-delivered : Ruled uncorrectable
+  pub second-opinion : Ruled second_opinion
   pub other-column : Ruled other_column
+  pub short-column : Ruled short_column
+  pub overtaken-byte : Ruled overtaken
   pub no-delay : Ruled no_delay
   pub long-delay : Ruled long_delay
+
+pub record ShamsRuledOut : Type 0 where
+  pub lawful : LawfulRuns
+  pub runs : ShamRuns
+  -- a driver that gives out the actions of a sham run does not keep the promises of a read
+  pub drivers : (xs : List Exchange) → Ruled (claimed xs) → ReadsAsAsked (actor (actions_in xs)) → ⊥

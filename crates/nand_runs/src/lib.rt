@@ -5,6 +5,7 @@ ghost use Rattle.nand_runs.specs.Chip.{DeliversTheChip};
 ghost use Rattle.nand_runs.specs.Promises.{NandPromises};
 ghost use Rattle.nand_runs.specs.ShamDrivers.{NandShamsFail};
 ghost use Rattle.nand_runs.specs.Run.{nand_driver};
+ghost use Rattle.nand_runs.specs.Shams.{ShamsRuledOut};
 
 /// Over every run of the NAND driver: who is refused and why, what happens to lent bytes, that every action, result and delivered
 /// byte is the Rust's but for one listed difference, that no call asks more delay than its bound, and what a read shows on the bus.
@@ -22,4 +23,9 @@ pub fn nand_delivers_the_chip()
 /// rest, runs for ever, gives up before it looks, gives the same result whatever was read, or has a bound that is no sum of its delays.
 pub fn nand_shams_fail()
     ensures { NandShamsFail }
+{}
+
+/// What is asked of a read's run tells lawful runs from sham ones, and no driver that gives out the actions of a sham run keeps it.
+pub fn nand_shams_ruled_out()
+    ensures { ShamsRuledOut }
 {}
