@@ -24,7 +24,7 @@ use Rattle.spi_nor.specs.declared.answer.Answer.{Answer}
 use Rattle.spi_nor.specs.declared.call.Call.{Call}
 use Rattle.spi_nor.specs.declared.config.NorQuadConfig.{NorQuadConfig}
 use Rattle.nor_driver.specs.Settle.{SpiNorFlash}
-use Rattle.nor_runs.specs.Chip.{joined, FromChip, pieces_in, ReadSeen, ReadOf, WriteOf, DeliversTheChip}
+use Rattle.nor_runs.specs.Chip.{joined, FromChip, pieces_in, ReadSeen, WriteSeen, ReadOf, WriteOf, DeliversTheChip}
 use Rattle.nor_runs.specs.Observer.{Piece, Sight, with_piece, unseen, observer}
 use Rattle.nor_runs.specs.Program.{program_of}
 use Rattle.nor_runs.specs.Run.{nor_driver}
@@ -176,6 +176,9 @@ module _ (flash : SpiNorFlash) (offset : ℕ) (l : Lent) (es : List (Event Call)
   abbrev ReadBack : Sights → Type 0
   ReadBack = SeenWrite.Whole size
 
+  nothing : Right start
+  nothing = (tt, record { rest = []; whole = refl })
+
   writes : bounded_at nor_driver flash writing l ≡ true → Shows (watcher lines) Right (λ a y. ReadBack y) start (program_at nor_driver flash.setup writing l)
   unfolding program_of
   writes inside = shows_then (watcher lines) Right (write-shows flash.setup inside offset size (got false [])) (λ u y full. shows-ret (watcher lines) Right full)
@@ -189,12 +192,21 @@ module _ (flash : SpiNorFlash) (offset : ℕ) (l : Lent) (es : List (Event Call)
   seen_run : Right (each lines write_run false) × (Succeeded write_run → ReadBack (each lines write_run false))
   seen_run =
       subst (λ z. Right z × (Succeeded write_run → ReadBack z)) (seen lines write_run false)
-      (run-sees known flash writing l es (watcher lines) Right ReadBack start tt writes)
+      (run-sees known flash writing l es (watcher lines) Right ReadBack start nothing writes)
 
   seen_end : Succeeded write_steps → Right (each lines write_steps false) × ReadBack (each lines write_steps false)
   seen_end e =
       subst (λ z. Right z × ReadBack z) (seen lines write_steps false)
-      (steps-see known flash writing l es (watcher lines) Right ReadBack start tt writes (Takes.Data size) refl e)
+      (steps-see known flash writing l es (watcher lines) Right ReadBack start nothing writes (Takes.Data size) refl e)
+
+  told : (xs : List (Entry Call (Left Setup Answer))) → Right (each lines xs false) → (Succeeded xs → ReadBack (each lines xs false)) → WriteSeen lines xs offset size
+  told xs right full = record {
+    in_turn = right.0;
+    programmed = right.1;
+    all_back = λ e. (full e).2;
+    same = λ e. (full e).0;
+    whole = λ e. (full e).1;
+  }
 
   same-data : Succeeded write_steps → SameData l.given write_steps → joined (pieces_in lines write_steps) ≡ l.given
   same-data e same =
@@ -203,14 +215,14 @@ module _ (flash : SpiNorFlash) (offset : ℕ) (l : Lent) (es : List (Event Call)
 
   write-of : WriteOf nor_driver flash offset l es
   write-of = record {
-    seen = record { in_turn = seen_run.0; same = λ e. (seen_run.1 e).0; whole = λ e. (seen_run.1 e).1 };
-    ended = λ e. let end = seen_end e in record { in_turn = end.0; same = λ h. end.1.0; whole = λ h. end.1.1 };
+    seen = told write_run seen_run.0 seen_run.1;
+    ended = λ e. told write_steps (seen_end e).0 (λ h. (seen_end e).1);
     same = same-data;
     holds = λ contents e same answered.
         let ps = pieces_in lines write_steps in
         let end = seen_end e in
         sym (ap (contents_from contents offset) end.1.1)
-        ∙ sym (from-chip contents ps offset end.0 answered)
+        ∙ sym (from-chip contents ps offset end.0.0 answered)
         ∙ same-data e same;
   }
 

@@ -36,8 +36,8 @@ place-exact offset done h =
     rw small (mod-eq_of_lt (omega arith))
 
 -- at every point of a run
-abbrev pub InOrder : ℕ → List Piece → List ℕ → Type 0
-InOrder offset ps bytes = InTurn offset ps × (joined ps ≡ bytes)
+abbrev pub InOrder : ℕ → List ℕ → List Piece → List ℕ → Type 0
+InOrder offset programmed ps bytes = InTurn offset ps × (joined ps ≡ bytes)
 
 -- where it ended well
 abbrev pub Whole : ℕ → Sights → Type 0
@@ -45,10 +45,10 @@ Whole len z = length z.1.bytes ≡ len
 
 module _ (flash : Setup) (bounds : in_bounds_of flash.device ≡ true) (offset len : ℕ) where
   abbrev Sound : List Piece → List ℕ → Type 0
-  Sound = InOrder offset
+  Sound = InOrder offset []
 
   abbrev Seeing : {A : Type 0} → (A → Sights → Type 0) → Sights → Prog A → Type 0
-  Seeing E z p = Sees flash.config.quad Sound E z p
+  Seeing E z p = Sees flash.config.quad (InOrder offset) E z p
 
   sound-more : (ps : List Piece) (bytes new given : List ℕ) → Sound ps bytes → length new ≤ 65536 → Sound (ps ++ piece (offset + length bytes) new given ∷ []) (bytes ++ new)
   sound-more ps bytes new given s small =
@@ -64,7 +64,7 @@ module _ (flash : Setup) (bounds : in_bounds_of flash.device ≡ true) (offset l
 
     abbrev Goes : ℕ → Type 0
     Goes fuel = (done : ℕ) (mine : Bool) (ps : List Piece) (bytes : List ℕ) → len - done ≤ fuel → Stands done ps bytes →
-        Seeing (λ u y. Whole len y) (at ps (got mine bytes)) (read-loop flash fuel offset len done)
+        Seeing (λ u y. Whole len y) (at [] ps (got mine bytes)) (read-loop flash fuel offset len done)
 
     module _ (fuel : ℕ) (goes : Goes fuel) (done : ℕ) (mine : Bool) (ps : List Piece) (bytes : List ℕ) (enough : len - done ≤ suc fuel) (below : done < len) (stands : Stands done ps bytes) where
       abbrev size : ℕ
@@ -87,17 +87,17 @@ module _ (flash : Setup) (bounds : in_bounds_of flash.device ≡ true) (offset l
       more new given e =
           subst (λ n. Sound (ps ++ piece (offset + n) new given ∷ []) (bytes ++ new)) stands.size (sound-more ps bytes new given stands.sound (omega (arith, most)))
 
-      turn : Seeing (λ u y. Whole len y) (at ps (got mine bytes)) (transfer (read_transfer flash (place_of offset done) size (Sink.Buffer done)) >> read-loop flash fuel offset len (done + size))
+      turn : Seeing (λ u y. Whole len y) (at [] ps (got mine bytes)) (transfer (read_transfer flash (place_of offset done) size (Sink.Buffer done)) >> read-loop flash fuel offset len (done + size))
       unfolding read_transfer
       turn =
           rw (place-exact offset done small)
           (shows_then (watcher flash.config.quad) _
-          (Transfers.reading flash.config.quad Sound (offset + done) size small (Sink.Buffer done) ps (got mine bytes) stands.sound some more)
-          (λ v y came. from flash.config.quad Sound came.4
+          (Transfers.reading flash.config.quad (InOrder offset) (offset + done) size small (Sink.Buffer done) [] ps (got mine bytes) stands.sound some more)
+          (λ v y came. from flash.config.quad (InOrder offset) came.4
           (goes (done + size) true (ps ++ piece (offset + done) came.0 came.1 ∷ []) (bytes ++ came.0) (omega (arith, some))
           (record { most = room; size = omega (arith, length-append bytes came.0, stands.size, came.2); sound = more came.0 came.1 came.2 }))))
 
-    ended : (done : ℕ) (mine : Bool) (ps : List Piece) (bytes : List ℕ) → len ≤ done → Stands done ps bytes → Seeing (λ u y. Whole len y) (at ps (got mine bytes)) (ret (tt {0}))
+    ended : (done : ℕ) (mine : Bool) (ps : List Piece) (bytes : List ℕ) → len ≤ done → Stands done ps bytes → Seeing (λ u y. Whole len y) (at [] ps (got mine bytes)) (ret (tt {0}))
     ended done mine ps bytes past stands = shows-ret (watcher flash.config.quad) _ (omega (arith, stands.size, stands.most))
 
     loops : (fuel : ℕ) → Goes fuel
@@ -108,11 +108,11 @@ module _ (flash : Setup) (bounds : in_bounds_of flash.device ≡ true) (offset l
         (λ e. rw e (turn fuel (loops fuel) done mine ps bytes enough (ltb-true done len e) stands))
         (λ e. rw e (ended done mine ps bytes (ltb-false done len e) stands))
 
-  pub read-shows : (mine : Bool) → Seeing (λ u y. Whole len y) (at [] (got mine [])) (read flash offset len)
+  pub read-shows : (mine : Bool) → Seeing (λ u y. Whole len y) (at [] [] (got mine [])) (read flash offset len)
   unfolding read reading
   read-shows mine =
       shows_then (watcher flash.config.quad) _
-      {E = λ u y. (range_in_bounds flash.device.capacity offset len ≡ true) × (y ≡ at [] (got mine []))}
+      {E = λ u y. (range_in_bounds flash.device.capacity offset len ≡ true) × (y ≡ at [] [] (got mine []))}
       (shows-refuse (watcher flash.config.quad) _ (not (range_in_bounds flash.device.capacity offset len)) _ (λ e. (sym (not-not _) ∙ ap not e, refl)))
-      (λ u y h. from flash.config.quad Sound h.1
+      (λ u y h. from flash.config.quad (InOrder offset) h.1
       (loops (range-told flash.device.capacity offset len h.0) (len - 0) 0 mine [] [] (omega arith) (record { most = omega arith; size = refl; sound = (tt, refl) })))

@@ -24,13 +24,13 @@ use Rattle.flash_runs.specs.Watch.{Watcher}
 use Rattle.flash_runs.proofs.Watchers.{both, Got, got, behind, reader}
 use Rattle.flash_runs.proofs.Watching.{Shows, shows-ret, shows-fail, shows-bind, shows-refuse, shows-transfer}
 use Rattle.qspi.specs.Command.{command_bytes}
-use Rattle.spi_nor.specs.Command.{quad_read_command, write_enable_command, read_status1_command}
+use Rattle.spi_nor.specs.Command.{quad_read_command, page_program_command, quad_page_program_command, write_enable_command, read_status1_command}
 use Rattle.spi_nor.specs.Opcode.{timings_of}
 use Rattle.spi_nor.specs.Status.{write_enabled_of}
 use Rattle.spi_nor.specs.Transfer.{read_at, program_at, program_transfer}
 use Rattle.spi_nor.specs.declared.opcode.Operation.{Operation}
 use Rattle.spi_nor.specs.declared.setup.Setup.{Setup}
-use Rattle.nor_runs.specs.Observer.{closed, written, quad_place, Piece, piece, with_piece, Sight, sight, observer}
+use Rattle.nor_runs.specs.Observer.{closed, written, quad_place, program_place, quad_program_place, with_place, Piece, piece, with_piece, Sight, sight, observer}
 use Rattle.nor_runs.specs.Rust.{busy_value, wait-ready, write-enable}
 
 abbrev pub Sights : Type 0
@@ -43,21 +43,21 @@ address-exact place h = omega arith
 place-asked : (quad : NorQuadConfig) (place : ℕ) → place < 16777216 → quad_place (Some quad) (written []) (command_bytes (quad_read_command quad place)) ≡ Some place
 place-asked quad place h = rw (eq-eqb quad.read_opcode quad.read_opcode refl) (ap Some (address-exact place h))
 
--- between two transfers, with these pieces; whose data the last command asked for, and the bytes read so far
-abbrev pub seen : List Piece → Sight
-seen pieces = sight closed None pieces
+-- between two transfers, with these places programmed and these pieces; whose data the last command asked for, and the bytes read so far
+abbrev pub seen : List ℕ → List Piece → Sight
+seen programmed pieces = sight closed None programmed pieces
 
-abbrev pub at : List Piece → Got → Sights
-at pieces g = (seen pieces, g)
+abbrev pub at : List ℕ → List Piece → Got → Sights
+at programmed pieces g = (seen programmed pieces, g)
 
 module _ (quad : Option NorQuadConfig) where
   abbrev pub watcher : Watcher Sights
   watcher = both (observer quad) (reader (λ command. true))
 
-  -- Q goes by the pieces and the bytes read
-  module _ (R : List Piece → List ℕ → Type 0) where
+  -- Q goes by the places programmed, the pieces and the bytes read
+  module _ (R : List ℕ → List Piece → List ℕ → Type 0) where
     abbrev pub Q : Sights → Type 0
-    Q z = R z.0.pieces z.1.bytes
+    Q z = R z.0.programmed z.0.pieces z.1.bytes
 
     abbrev pub Sees : {A : Type 0} → (A → Sights → Type 0) → Sights → Prog A → Type 0
     Sees E z p = Shows watcher Q E z p
@@ -67,23 +67,23 @@ module _ (quad : Option NorQuadConfig) where
 
     -- ---- a read of the contents
 
-    module _ (place n : ℕ) (small : place < 16777216) (sink : Sink) (pieces : List Piece) (g : Got) (q : R pieces g.bytes) where
+    module _ (place n : ℕ) (small : place < 16777216) (sink : Sink) (programmed : List ℕ) (pieces : List Piece) (g : Got) (q : R programmed pieces g.bytes) where
       -- the bytes that came, beside these data, with the value that they gave
       abbrev pub Came : ℕ → Sights → Type 0
-      Came v y = (new given : List ℕ) × (length new ≡ n) × (v ≡ value_of sink new given) × (y ≡ at (pieces ++ piece place new given ∷ []) (got true (g.bytes ++ new)))
+      Came v y = (new given : List ℕ) × (length new ≡ n) × (v ≡ value_of sink new given) × (y ≡ at programmed (pieces ++ piece place new given ∷ []) (got true (g.bytes ++ new)))
 
       -- without data nothing has come
-      none : (asked : Option ℕ) → R (with_piece asked [] [] pieces) g.bytes
+      none : (asked : Option ℕ) → R programmed (with_piece asked [] [] pieces) g.bytes
       none None = q
       none (Some p) = q
 
-      module _ (some : 1 ≤ n) (more : (new given : List ℕ) → length new ≡ n → R (pieces ++ piece place new given ∷ []) (g.bytes ++ new)) where
+      module _ (some : 1 ≤ n) (more : (new given : List ℕ) → length new ≡ n → R programmed (pieces ++ piece place new given ∷ []) (g.bytes ++ new)) where
         abbrev heard : Option ℕ → (new given : List ℕ) → Sights
-        heard asked new given = at (with_piece asked given new pieces) (got true (behind true g.bytes new))
+        heard asked new given = at programmed (with_piece asked given new pieces) (got true (behind true g.bytes new))
 
-        heard-is : (asked : Option ℕ) → asked ≡ Some place → (new given : List ℕ) → length new ≡ n → heard asked new given ≡ at (pieces ++ piece place new given ∷ []) (got true (g.bytes ++ new))
+        heard-is : (asked : Option ℕ) → asked ≡ Some place → (new given : List ℕ) → length new ≡ n → heard asked new given ≡ at programmed (pieces ++ piece place new given ∷ []) (got true (g.bytes ++ new))
         heard-is asked a [] given e = absurd (omega arith)
-        heard-is asked a (b ∷ new) given e = ap (λ x. at (with_piece x given (b ∷ new) pieces) (got true (g.bytes ++ b ∷ new))) a
+        heard-is asked a (b ∷ new) given e = ap (λ x. at programmed (with_piece x given (b ∷ new) pieces) (got true (g.bytes ++ b ∷ new))) a
 
         came : (asked : Option ℕ) → asked ≡ Some place → (new given : List ℕ) → length new ≡ n →
             Q (heard asked new given) × (Q (heard asked new given) × Came (value_of sink new given) (heard asked new given))
@@ -92,10 +92,10 @@ module _ (quad : Option NorQuadConfig) where
             let right : Q (heard asked new given) = subst Q (sym is) (more new given e) in
             (right, (right, (new, given, e, refl, is)))
 
-        pub reading : Sees Came (at pieces g) (transfer (read_at quad place n sink))
+        pub reading : Sees Came (at programmed pieces g) (transfer (read_at quad place n sink))
         reading = at_width quad
           where
-            at_width : (q : Option NorQuadConfig) → Shows (both (observer q) (reader (λ command. true))) Q Came (at pieces g) (transfer (read_at q place n sink))
+            at_width : (q : Option NorQuadConfig) → Shows (both (observer q) (reader (λ command. true))) Q Came (at programmed pieces g) (transfer (read_at q place n sink))
             at_width None =
                 shows-transfer _ Q (read_at None place n sink)
                 (q, (q, ((q, q), (q, ((q, q), (λ new given e. came _ (ap Some (address-exact place small)) new given e))))))
@@ -105,16 +105,16 @@ module _ (quad : Option NorQuadConfig) where
 
     -- ---- what a write does beside: no byte of the contents is asked for
 
-    module _ (pieces : List Piece) (q : (bytes : List ℕ) → R pieces bytes) where
-      -- a program behind which these pieces are still all
+    module _ (programmed : List ℕ) (pieces : List Piece) (q : (bytes : List ℕ) → R programmed pieces bytes) where
+      -- a program behind which the places and pieces are still these
       abbrev pub Quiet : {A : Type 0} → Got → Prog A → Type 0
-      Quiet g p = Sees (λ a y. y.0 ≡ seen pieces) (at pieces g) p
+      Quiet g p = Sees (λ a y. y.0 ≡ seen programmed pieces) (at programmed pieces g) p
 
-      pub quiet-bind : {A B : Type 0} {E : B → Sights → Type 0} {g : Got} {p : Prog A} {k : A → Prog B} → Quiet g p → ((a : A) (h : Got) → Sees E (at pieces h) (k a)) → Sees E (at pieces g) (p >>= k)
+      pub quiet-bind : {A B : Type 0} {E : B → Sights → Type 0} {g : Got} {p : Prog A} {k : A → Prog B} → Quiet g p → ((a : A) (h : Got) → Sees E (at programmed pieces h) (k a)) → Sees E (at programmed pieces g) (p >>= k)
       quiet-bind {E = E} {k = k} first next =
           shows-bind watcher Q first (λ a y e. from (ap (λ (s : Sight). (s, y.1)) e) (next a y.1))
 
-      pub quiet-then : {A B : Type 0} {E : B → Sights → Type 0} {g : Got} {p : Prog A} {k : Prog B} → Quiet g p → ((h : Got) → Sees E (at pieces h) k) → Sees E (at pieces g) (p >> k)
+      pub quiet-then : {A B : Type 0} {E : B → Sights → Type 0} {g : Got} {p : Prog A} {k : Prog B} → Quiet g p → ((h : Got) → Sees E (at programmed pieces h) k) → Sees E (at programmed pieces g) (p >> k)
       unfolding ◌>>◌
       quiet-then first next = quiet-bind first (λ a h. next h)
 
@@ -128,15 +128,6 @@ module _ (quad : Option NorQuadConfig) where
       look g =
           shows-transfer watcher Q (number_transfer read_status1_command 1)
           (q _, (q _, ((q _, q _), (q _, ((q _, q _), (λ new given e. (q _, (q _, refl))))))))
-
-      program : (place from n : ℕ) (g : Got) → Quiet g (transfer (program_at quad place from n))
-      program place from n g = at_width quad
-        where
-          at_width : (w : Option NorQuadConfig) → Shows watcher Q (λ a y. y.0 ≡ seen pieces) (at pieces g) (transfer (program_at w place from n))
-          at_width None =
-              shows-transfer watcher Q (program_at None place from n)
-              (q _, (q _, ((q _, q _), (λ given. (q _, (q _, (q _, refl)))))))
-          at_width (Some x) = shows-transfer watcher Q (program_at (Some x) place from n) (q _, (λ given. (q _, (q _, (q _, refl)))))
 
       wait-loop : (timings : Timings) (fuel sum : ℕ) (g : Got) → Quiet g (wait_loop read_status1_command busy_value fuel timings sum)
       unfolding wait_loop
@@ -161,6 +152,30 @@ module _ (quad : Option NorQuadConfig) where
           quiet-bind (quiet-bind (look h) (λ v k. shows-ret watcher Q refl)) (λ status1 k.
           shows-refuse watcher Q (not (write_enabled_of status1)) _ (λ e. refl)))
 
-      pub program_sent : (setup : Setup) → setup.config.quad ≡ quad → (place from n : ℕ) (g : Got) → Quiet g (transfer (program_transfer setup place from n))
-      unfolding program_transfer
-      program_sent setup e place from n g = rw e (program place from n g)
+      -- ---- a page is programmed
+
+      module _ (place : ℕ) (small : place < 16777216) (more : (bytes : List ℕ) → R (programmed ++ place ∷ []) pieces bytes) where
+        noted : (p : Option ℕ) → p ≡ Some place → (bytes : List ℕ) → R (with_place p programmed) pieces bytes
+        noted p e bytes = subst (λ x. R (with_place x programmed) pieces bytes) (sym e) (more bytes)
+
+        noted-is : (p : Option ℕ) → p ≡ Some place → seen (with_place p programmed) pieces ≡ seen (programmed ++ place ∷ []) pieces
+        noted-is p e = ap (λ x. seen (with_place x programmed) pieces) e
+
+        program : (from n : ℕ) (g : Got) → Sees (λ a y. y.0 ≡ seen (programmed ++ place ∷ []) pieces) (at programmed pieces g) (transfer (program_at quad place from n))
+        program from n g = at_width quad
+          where
+            at_width : (w : Option NorQuadConfig) → Shows (both (observer w) (reader (λ command. true))) Q (λ a y. y.0 ≡ seen (programmed ++ place ∷ []) pieces) (at programmed pieces g) (transfer (program_at w place from n))
+            at_width None =
+                let sent : Option ℕ = program_place (written (command_bytes (page_program_command place))) in
+                let exact : sent ≡ Some place = ap Some (address-exact place small) in
+                shows-transfer _ Q (program_at None place from n)
+                (q _, (q _, ((q _, q _), (λ given. (noted sent exact _, (noted sent exact _, (noted sent exact _, noted-is sent exact)))))))
+            at_width (Some x) =
+                let sent : Option ℕ = quad_program_place (Some x) (written []) (command_bytes (quad_page_program_command x place)) in
+                let exact : sent ≡ Some place = rw (eq-eqb x.page_program_opcode x.page_program_opcode refl) (ap Some (address-exact place small)) in
+                shows-transfer _ Q (program_at (Some x) place from n) (q _, (λ given. (noted sent exact _, (noted sent exact _, (noted sent exact _, noted-is sent exact)))))
+
+        pub program_sent : (setup : Setup) → setup.config.quad ≡ quad → (from n : ℕ) (g : Got) →
+            Sees (λ a y. y.0 ≡ seen (programmed ++ place ∷ []) pieces) (at programmed pieces g) (transfer (program_transfer setup place from n))
+        unfolding program_transfer
+        program_sent setup e from n g = rw e (program from n g)

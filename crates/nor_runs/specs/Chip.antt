@@ -2,6 +2,7 @@
 -- on the bus"): told from the bytes on the bus, whatever the replies and whatever is lent.
 use Rattle.std.specs.Prelude.{ℕ, ◌+◌, ◌≤◌, true, ◌≡◌, List, [], ◌∷◌, ◌++◌, length, take, drop, Option}
 use Rattle.spi_flash.specs.Loan.{Lent}
+use Rattle.spi_flash.specs.Path.{Prefix}
 use Rattle.spi_flash.specs.Run.{Event, Entry}
 use Rattle.spi_flash.specs.Seen.{SameData}
 use Rattle.flash_runs.specs.Contents.{contents_from, run, steps, Delivers}
@@ -11,7 +12,7 @@ use Rattle.flash_runs.specs.Watch.{watched, Succeeded}
 use Rattle.spi_nor.specs.declared.call.Call.{Call}
 use Rattle.spi_nor.specs.declared.config.NorQuadConfig.{NorQuadConfig}
 use Rattle.spi_nor.specs.declared.setup.Setup.{Setup}
-use Rattle.nor_runs.specs.Observer.{Piece, unseen, observer}
+use Rattle.nor_runs.specs.Observer.{Piece, Sight, unseen, observer}
 
 -- ---- pieces
 
@@ -24,6 +25,11 @@ InTurn place (p ∷ ps) = (p.place ≡ place) × (length p.bytes ≤ 65536) × I
 abbrev pub joined : List Piece → List ℕ
 joined [] = []
 joined (p ∷ ps) = p.bytes ++ joined ps
+
+-- where they begin
+abbrev pub places : List Piece → List ℕ
+places [] = []
+places (p ∷ ps) = p.place ∷ places ps
 
 -- the chip has answered with its contents: each piece holds them from the place that the command on the bus asked for
 abbrev pub FromChip : (contents : ℕ → ℕ) → List Piece → Type 0
@@ -38,9 +44,12 @@ SameAsLent from (p ∷ ps) = (p.bytes ≡ take (length p.bytes) (drop from p.giv
 -- ---- a run
 
 module _ (quad : Option NorQuadConfig) {C A : Type 0} (xs : List (Entry C A)) where
+  abbrev pub seen_in : Sight
+  seen_in = watched (observer quad) unseen xs
+
   -- what came back to reads of the contents
   abbrev pub pieces_in : List Piece
-  pieces_in = (watched (observer quad) unseen xs).pieces
+  pieces_in = seen_in.pieces
 
   -- the bytes of all data replies
   abbrev pub data_in : List ℕ
@@ -52,10 +61,12 @@ module _ (quad : Option NorQuadConfig) {C A : Type 0} (xs : List (Entry C A)) wh
     pub all : joined pieces_in ≡ data_in
     pub whole : Succeeded xs → length data_in ≡ len
 
-  -- a write of len bytes at offset: it reads back from its own places alone, in order, and at a good end all of them, each as the
-  -- data were in the step that compared it
+  -- a write of len bytes at offset: it reads back from its own places alone, in order, each page once it was programmed; and at a good
+  -- end all of them, each as the data were in the step that compared it
   pub record WriteSeen (offset len : ℕ) : Type 0 where
     pub in_turn : InTurn offset pieces_in
+    pub programmed : Prefix (places pieces_in) seen_in.programmed
+    pub all_back : Succeeded xs → places pieces_in ≡ seen_in.programmed
     pub same : Succeeded xs → SameAsLent 0 pieces_in
     pub whole : Succeeded xs → length (joined pieces_in) ≡ len
 

@@ -1,11 +1,11 @@
--- What is seen of a NOR from outside: the reads of its contents, told from the bytes on the bus alone, and what came back to them
--- (docs/SPECIFICATION.md, "Reads on the bus"). The watcher knows nothing of the driver; beside the bytes it knows the opcode that the
--- caller has chosen for quad reads.
+-- What is seen of a NOR from outside: the reads of its contents, told from the bytes on the bus alone, what came back to them, and where
+-- pages were programmed (docs/SPECIFICATION.md, "Reads on the bus"). The watcher knows nothing of the driver; beside the bytes it knows the
+-- opcodes that the caller has chosen for quad calls.
 use Rattle.std.specs.Prelude.{ℕ, ◌==◌, List, [], ◌∷◌, ◌++◌, Option, Some, None, if◌then◌else◌}
 use Rattle.qspi.specs.Address.{read_from}
 use Rattle.qspi.specs.Shown.{Shown, low, high, write, read, quad_read, quad_write, delay}
 use Rattle.flash_runs.specs.Watch.{Watcher}
-use Rattle.spi_nor.specs.Opcode.{READ}
+use Rattle.spi_nor.specs.Opcode.{READ, PAGE-PROGRAM}
 use Rattle.spi_nor.specs.declared.config.NorQuadConfig.{NorQuadConfig}
 
 -- ---- the frame
@@ -53,6 +53,28 @@ asks quad (read n) frame = read_place frame
 asks quad (quad_read command tclqv margin n) frame = quad_place quad frame command
 asks quad _ frame = None
 
+-- ---- where a page is programmed
+
+-- data behind the command 02, where nothing else was written in the frame
+abbrev pub program_place : Frame → Option ℕ
+program_place closed = None
+program_place (written command) = place_in PAGE-PROGRAM command
+program_place used = None
+
+-- a quad write, alone in its frame, with the caller's opcode
+abbrev pub quad_program_place : Option NorQuadConfig → Frame → List ℕ → Option ℕ
+quad_program_place (Some quad) (written []) command = place_in quad.page_program_opcode command
+quad_program_place _ _ command = None
+
+abbrev pub programs : Option NorQuadConfig → Shown → Frame → Option ℕ
+programs quad (write bytes) frame = program_place frame
+programs quad (quad_write command payload) frame = quad_program_place quad frame command
+programs quad _ frame = None
+
+abbrev pub with_place : Option ℕ → List ℕ → List ℕ
+with_place None before = before
+with_place (Some place) before = before ++ place ∷ []
+
 -- ---- what came back
 
 -- the bytes of one data reply, from which place on, and the caller's data lent beside them
@@ -76,17 +98,19 @@ pub record Sight : Type 0 where
   pub frame : Frame
   -- the place that the action that is out asks for
   pub asked : Option ℕ
+  -- the places of the pages programmed, and the pieces that came back, each in turn
+  pub programmed : List ℕ
   pub pieces : List Piece
 
-abbrev pub sight : Frame → Option ℕ → List Piece → Sight
-sight frame asked pieces = record { frame = frame; asked = asked; pieces = pieces }
+abbrev pub sight : Frame → Option ℕ → List ℕ → List Piece → Sight
+sight frame asked programmed pieces = record { frame = frame; asked = asked; programmed = programmed; pieces = pieces }
 
 -- before a run
 abbrev pub unseen : Sight
-unseen = sight closed None []
+unseen = sight closed None [] []
 
 abbrev pub observer : Option NorQuadConfig → Watcher Sight
 observer quad = record {
-  gives = λ shown s. sight (frame_after shown s.frame) (asks quad shown s.frame) s.pieces;
-  hears = λ given bytes s. sight s.frame None (with_piece s.asked given bytes s.pieces);
+  gives = λ shown s. sight (frame_after shown s.frame) (asks quad shown s.frame) (with_place (programs quad shown s.frame) s.programmed) s.pieces;
+  hears = λ given bytes s. sight s.frame None s.programmed (with_piece s.asked given bytes s.pieces);
 }
