@@ -3,3 +3,4 @@ pub mod Replays
 pub mod Exactly
 pub mod Hearing
 pub mod Following
+pub mod Shams

@@ -1,3 +1,4 @@
 pub mod Player
 pub mod Replays
 pub mod Exactly
+pub mod Shams
