@@ -20,6 +20,8 @@ use Rattle.nor_runs.specs.Bound.{page_taken, quad_bound, unit_bound, delay_bound
 use Rattle.spi_nor.specs.declared.phase.EraseKind.{EraseKind}
 use Rattle.spi_nor.specs.declared.call.Call.{Call}
 use Rattle.spi_nor.specs.declared.setup.Setup.{Setup}
+use Rattle.nor_runs.proofs.AsCoded.{coded}
+use Rattle.nor_runs.proofs.Agrees.{same}
 use Rattle.nor_runs.proofs.Waits.{wait-delays, wait-actions}
 use Rattle.nor_runs.proofs.Weights.{bounded-erase, weighed}
 
@@ -41,10 +43,10 @@ construction-delays true (Some q) = omega arith
 construction-delays false q = omega arith
 
 within : (flash : Setup) (call : Call) (b d : ℕ) → Bounds nor_driver flash call b d → weight_of asked flash call b d ≤ delay_bound flash call d → Bounded delays (delay_bound flash call d) (program_of flash call b d)
-within flash call b d h e = bounded-more e (weighed delay-figures flash call b d h)
+within flash call b d h e = rw (same flash call b d h) (bounded-more e (weighed delay-figures flash call b d h))
 
 pub bounded : (flash : Setup) (call : Call) (b d : ℕ) → Bounds nor_driver flash call b d → Bounded delays (delay_bound flash call d) (program_of flash call b d)
-unfolding program_of delay_bound weight_of
+unfolding coded delay_bound weight_of
 bounded flash Call.New b d h = within flash Call.New b d h (omega arith)
 bounded flash (Call.WithConfig config) b d h = within flash (Call.WithConfig config) b d h (construction-delays (page_taken config.device) config.quad)
 bounded flash Call.Config b d h = within flash Call.Config b d h (omega arith)
@@ -62,11 +64,11 @@ bounded flash Call.DisableQuad b d h = within flash Call.DisableQuad b d h (omeg
 bounded flash (Call.Read offset) b d h = within flash (Call.Read offset) b d h (omega arith)
 bounded flash (Call.Write offset) b d h = within flash (Call.Write offset) b d h (omega arith)
 bounded flash Call.Unprotect b d h = within flash Call.Unprotect b d h (omega arith)
-bounded flash (Call.Erase from to) b d h = ended _ (omega arith) (bounded-erase delay-figures flash unit_bound (λ kind. omega (arith, unit-delays kind)) from to)
+bounded flash (Call.Erase from to) b d h = rw (same flash (Call.Erase from to) b d h) (ended _ (omega arith) (bounded-erase delay-figures flash unit_bound (λ kind. omega (arith, unit-delays kind)) from to))
 bounded flash (Call.EraseSector offset) b d h = within flash (Call.EraseSector offset) b d h (omega arith)
 bounded flash (Call.EraseBlock offset) b d h = within flash (Call.EraseBlock offset) b d h (omega arith)
 
 -- ---- the actions
 
 pub acts : (flash : Setup) (call : Call) (b d : ℕ) → Bounds nor_driver flash call b d → Bounded actions (action_bound flash call b d) (program_of flash call b d)
-acts = weighed (actions-weigh wait-ready wait_actions wait-actions)
+acts flash call b d h = rw (same flash call b d h) (weighed (actions-weigh wait-ready wait_actions wait-actions) flash call b d h)

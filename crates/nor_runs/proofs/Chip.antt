@@ -26,7 +26,8 @@ use Rattle.spi_nor.specs.declared.config.NorQuadConfig.{NorQuadConfig}
 use Rattle.nor_driver.specs.Settle.{SpiNorFlash}
 use Rattle.nor_runs.specs.Chip.{joined, FromChip, pieces_in, ReadSeen, WriteSeen, ReadOf, WriteOf, DeliversTheChip}
 use Rattle.nor_runs.specs.Observer.{Piece, Sight, with_piece, unseen, observer}
-use Rattle.nor_runs.specs.Program.{program_of}
+use Rattle.nor_runs.proofs.AsCoded.{coded}
+use Rattle.nor_runs.proofs.Agrees.{same}
 use Rattle.nor_runs.specs.Run.{nor_driver}
 use Rattle.nor_runs.proofs.Pieces.{from-chip, Beside, beside-more, whole-data}
 use Rattle.nor_runs.proofs.Promises.{known}
@@ -72,8 +73,10 @@ module _ (flash : SpiNorFlash) (offset : ℕ) (l : Lent) (es : List (Event Call)
     Full = SeenRead.Whole len
 
     shows : bounded_at nor_driver flash c l ≡ true → Shows (watcher quad) Fine (λ a y. Full y) first (program_at nor_driver flash.setup c l)
-    unfolding program_of
-    shows inside = shows_then (watcher quad) Fine (read-shows flash.setup inside offset len mine) (λ u y full. shows-ret (watcher quad) Fine full)
+    unfolding coded
+    shows inside =
+        rw (same flash.setup c len (length l.given) inside)
+        (shows_then (watcher quad) Fine (read-shows flash.setup inside offset len mine) (λ u y full. shows-ret (watcher quad) Fine full))
 
     -- of a run, and of a good end
     in_run : Fine (each quad (run_at nor_driver flash c l es) mine) × (Succeeded (run_at nor_driver flash c l es) → Full (each quad (run_at nor_driver flash c l es) mine))
@@ -180,8 +183,10 @@ module _ (flash : SpiNorFlash) (offset : ℕ) (l : Lent) (es : List (Event Call)
   nothing = (tt, record { rest = []; whole = refl })
 
   writes : bounded_at nor_driver flash writing l ≡ true → Shows (watcher lines) Right (λ a y. ReadBack y) start (program_at nor_driver flash.setup writing l)
-  unfolding program_of
-  writes inside = shows_then (watcher lines) Right (write-shows flash.setup inside offset size (got false [])) (λ u y full. shows-ret (watcher lines) Right full)
+  unfolding coded
+  writes inside =
+      rw (same flash.setup writing (length l.buffer) size inside)
+      (shows_then (watcher lines) Right (write-shows flash.setup inside offset size (got false [])) (λ u y full. shows-ret (watcher lines) Right full))
 
   abbrev write_run : List (Entry Call (Left Setup Answer))
   write_run = run nor_driver flash writing l es

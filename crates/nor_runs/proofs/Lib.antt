@@ -1,4 +1,9 @@
+pub mod AsCoded
 pub mod Loops
+pub mod RustLoops
+pub mod Agrees
+pub mod SameWords
+pub mod NothingWraps
 pub mod Waits
 pub mod Weights
 pub mod Bounds

@@ -12,7 +12,8 @@ use Rattle.spi_nor.specs.Opcode.{MAX-BULK-LEN}
 use Rattle.spi_nor.specs.Config.{in_bounds_of}
 use Rattle.spi_flash.specs.Range.{range_in_bounds}
 use Rattle.spi_nor.specs.Transfer.{place_of, chunk_of, page_of, read_transfer, unit_size, step_kind, after_unit}
-use Rattle.nor_runs.specs.Rust.{Nothing, read-loop, reading, page-program, write-loop, writing, erase-unit, erase-loop, erasing}
+use Rattle.nor_runs.specs.Rust.{Nothing}
+use Rattle.nor_runs.proofs.AsCoded.{read-loop, reading, page-program, write-loop, writing, erase-unit, erase-loop, erasing}
 use Rattle.spi_nor.specs.declared.config.NorDeviceInfo.{NorDeviceInfo}
 use Rattle.spi_nor.specs.declared.phase.EraseKind.{EraseKind}
 use Rattle.spi_nor.specs.declared.setup.Setup.{Setup}

@@ -29,7 +29,7 @@ use Rattle.machine.specs.Shape.{opening_as}
 use Rattle.nor_driver.specs.Call.{fresh_setup}
 use Rattle.nor_driver.specs.Settle.{then_as}
 use Rattle.nor_steps.specs.Opening.{opening_of}
-use Rattle.nor_runs.specs.Rust.{read, write, erase-unit, erase, erasing}
+use Rattle.nor_runs.proofs.AsCoded.{read, write, erase-unit, erase, erasing}
 use Rattle.nor_runs.specs.Program.{Left, leaving, program_of}
 use Rattle.nor_runs.specs.Run.{sort_of, nor_driver}
 use Rattle.spi_nor.specs.declared.phase.EraseKind.{EraseKind}
@@ -39,6 +39,8 @@ use Rattle.spi_nor.specs.declared.call.Call.{Call}
 use Rattle.spi_nor.specs.declared.setup.Setup.{Setup}
 use Rattle.nor_steps.specs.Go.{go_to}
 use Rattle.nor_steps.specs.Then.{Then}
+use Rattle.nor_runs.proofs.AsCoded.{coded}
+use Rattle.nor_runs.proofs.Agrees.{same}
 use Rattle.nor_runs.proofs.Loops.{erasing-loop}
 use Rattle.nor_runs.proofs.Places.{place, decide, nor_parts, Valid, Built, Stays}
 use Rattle.nor_runs.proofs.Keeps.{stays, keeps-read, keeps-program, keeps-unit, keeps-erase}
@@ -147,34 +149,34 @@ module _ (s : Setup) (c : Call) (b d : ℕ) where
   program = program_of s c b d
 
   -- a call on a driver that is built
-  used : (takes : Takes) (x : Then) → sort_of c b d ≡ uses takes → (in_bounds_of s.device ≡ true → program ≡ tree meaning (decide x)) → Stays s x → Selecting x →
+  used : (takes : Takes) (x : Then) → sort_of c b d ≡ uses takes → (in_bounds_of s.device ≡ true → coded s c b d ≡ tree meaning (decide x)) → Stays s x → Selecting x →
       Use nor_driver nor_parts Valid Built meaning s c b d takes (then_as x)
   used takes x sorted follows keeps selects = record {
     sorted = sorted;
-    follows = follows;
+    follows = λ inside. same s c b d (rw sorted inside) ∙ follows inside;
     valid = λ inside. onward-stays Valid Built s (λ phase built. inside) (then_as x) keeps;
     stays = keeps;
     selects = selects;
   }
 
   -- one that begins with a transfer whatever it is asked for
-  transfers : (t : Transfer) (phase : Phase) → sort_of c b d ≡ uses Takes.Nothing → program ≡ ask t (meaning (place s phase)) → Built phase → Selects t →
+  transfers : (t : Transfer) (phase : Phase) → sort_of c b d ≡ uses Takes.Nothing → coded s c b d ≡ ask t (meaning (place s phase)) → Built phase → Selects t →
       Use nor_driver nor_parts Valid Built meaning s c b d Takes.Nothing (General.go s t phase)
   transfers t phase sorted follows built selects = used Takes.Nothing (go_to s t phase) sorted (λ inside. follows) (refl, built) selects
 
   -- a single erase
-  unit-used : (kind : EraseKind) (offset : ℕ) → sort_of c b d ≡ uses Takes.Nothing → (in_bounds_of s.device ≡ true → program ≡ tree meaning (decide (erase_one s kind offset))) →
+  unit-used : (kind : EraseKind) (offset : ℕ) → sort_of c b d ≡ uses Takes.Nothing → (in_bounds_of s.device ≡ true → coded s c b d ≡ tree meaning (decide (erase_one s kind offset))) →
       Use nor_driver nor_parts Valid Built meaning s c b d Takes.Nothing (then_as (erase_one s kind offset))
   unit-used kind offset sorted follows =
       let end = after_unit s.device kind offset in
       used Takes.Nothing (erase_one s kind offset) sorted follows (keeps-unit (Stays s) s (stays s) kind offset end) (selects-unit s kind offset end)
 
   constructed : (config : SpiNorConfig) → sort_of c b d ≡ constructs (fresh_setup config) → ((before : Setup) → program_of before c b d ≡ program) →
-      program ≡ ask Transfer.Raise (meaning (place (fresh_setup config) Phase.Raised)) → Construction nor_driver nor_parts Valid Built meaning s c b d (fresh_setup config)
-  constructed config sorted alike follows = record { sorted = sorted; follows = λ inside. follows; valid = λ inside. inside; alike = alike }
+      coded s c b d ≡ ask Transfer.Raise (meaning (place (fresh_setup config) Phase.Raised)) → Construction nor_driver nor_parts Valid Built meaning s c b d (fresh_setup config)
+  constructed config sorted alike follows = record { sorted = sorted; follows = λ inside. same s c b d (rw sorted inside) ∙ follows; valid = λ inside. inside; alike = alike }
 
 pub opened : (s : Setup) (c : Call) (b d : ℕ) → OpensAs nor_driver nor_parts Valid Built meaning s c b d (opening_as (opening_of s c b d))
-unfolding opening_of program_of
+unfolding opening_of coded program_of
 opened s Call.New b d = constructed s Call.New b d single_config refl (λ before. refl) ((beginnings s).construction single_config)
 opened s (Call.WithConfig config) b d = constructed s (Call.WithConfig config) b d config refl (λ before. refl) ((beginnings s).construction config)
 opened s Call.Config b d = record { sorted = refl; follows = refl }

@@ -10,7 +10,7 @@ use Rattle.spi_flash.specs.Range.{range_in_bounds}
 use Rattle.spi_nor.specs.Transfer.{multiple_of, unit_size}
 use Rattle.spi_nor.specs.declared.phase.EraseKind.{EraseKind}
 use Rattle.spi_nor.specs.declared.setup.Setup.{Setup}
-use Rattle.nor_runs.specs.Rust.{read, write, erase-unit, erase}
+use Rattle.nor_runs.proofs.AsCoded.{read, write, erase-unit, erase}
 use Rattle.nor_runs.specs.Program.{Left}
 
 module _ (flash : Setup) (left : Left) where

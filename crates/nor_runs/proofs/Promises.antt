@@ -2,15 +2,18 @@
 -- Assumes nothing.
 use Rattle.std.specs.Prelude.{Ok, Err}
 use Rattle.qspi.specs.Frame.{Outcome}
+use lib.ListN.{length}
 use Rattle.flash_runs.proofs.Promises.{promises}
 use Rattle.flash_runs.proofs.Supplies.{Supplies, Known}
 use Rattle.nor_driver.specs.Next.{next_of}
 use Rattle.spi_nor.specs.declared.phase.Phase.{Phase}
 use Rattle.spi_nor.specs.declared.setup.Setup.{Setup}
+use Rattle.nor_runs.specs.Bound.{delay_bound}
 use Rattle.nor_runs.specs.Run.{nor_driver, NorPromises}
 use Rattle.nor_runs.proofs.Places.{nor_parts, Valid, Built, Stays}
 use Rattle.nor_runs.proofs.Keeps.{stays, keeps-built}
 use Rattle.nor_runs.proofs.Simulation.{meaning, simulates}
+use Rattle.nor_runs.proofs.Agrees.{same}
 use Rattle.nor_runs.proofs.Openings.{opened}
 use Rattle.nor_runs.proofs.Bounds.{bounded, acts}
 use Rattle.nor_runs.proofs.Reaches.{ends, reached}
@@ -29,8 +32,9 @@ supplies = record {
   stays = stays-next;
   bounded = bounded;
   acts = acts;
-  reached = reached;
-  ends_well = λ flash call b given inside small asks can. let e = ends flash call b given inside small asks can in (_, e.0, e.1);
+  reached = λ flash call b given inside small asks. let e = same flash call b (length given) inside in rw e (reached flash call b given inside small (rw e at asks));
+  ends_well = λ flash call b given inside small asks can. let e = same flash call b (length given) inside in
+      let ended = ends flash call b given inside small (rw e at asks) can in (delay_bound flash call (length given), ended.0, rw e ended.1);
   lent = lent;
 }
 

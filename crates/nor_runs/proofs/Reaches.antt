@@ -27,8 +27,10 @@ use Rattle.spi_nor.specs.Transfer.{place_of, page_of, read_at, read_transfer, pr
 use Rattle.spi_flash.specs.Range.{range_in_bounds}
 use Rattle.nor_steps.specs.Register.{device_at, device_for, id_of, known_as}
 use Rattle.nor_driver.specs.Call.{given_at, fresh_setup}
-use Rattle.nor_runs.specs.Rust.{read-status1, read-status2, is-busy, write-enable, write-status1, write-status2, jedec-id, unique-id, quad-enabled, enable-quad, disable-quad, reading, read, read_back, page-program, writing, write, erase-unit, erase-loop, erasing, erase, unprotect, quad-if, with-config}
+use Rattle.nor_runs.specs.Rust.{read-status1, read-status2, is-busy, write-enable, write-status1, write-status2, jedec-id, unique-id, quad-enabled, enable-quad, disable-quad, unprotect, quad-if}
+use Rattle.nor_runs.proofs.AsCoded.{reading, read, read_back, page-program, writing, write, erase-unit, erase-loop, erasing, erase, with-config}
 use Rattle.nor_runs.specs.Program.{Left, program_of}
+use Rattle.nor_runs.proofs.AsCoded.{coded}
 use Rattle.nor_runs.specs.Bound.{page_taken, quad_bound, construction_bound, unit_bound, erase_sum, delay_bound}
 use Rattle.nor_runs.specs.Run.{sort_of, can_end, nor_driver}
 use Rattle.spi_nor.specs.declared.config.SpiNorConfig.{SpiNorConfig}
@@ -247,9 +249,9 @@ module _ (given : List ℕ) where
       rw h (record { reach = (0, refl, (0, zeros given 3, rw (page-refused config.device h) refl)) })
 
 -- every call that begins comes to its bill at a good end, but for a construction with too large a page
-pub ends : (flash : Setup) (call : Call) (b : ℕ) (given : List ℕ) → Bounds nor_driver flash call b (length given) → AllBytes given → Asks (program_of flash call b (length given)) →
-    can_end (sort_of call b (length given)) ≡ true → (left : Left) × Ends given delays (delay_bound flash call (length given)) left (program_of flash call b (length given))
-unfolding program_of delay_bound
+pub ends : (flash : Setup) (call : Call) (b : ℕ) (given : List ℕ) → Bounds nor_driver flash call b (length given) → AllBytes given → Asks (coded flash call b (length given)) →
+    can_end (sort_of call b (length given)) ≡ true → (left : Left) × Ends given delays (delay_bound flash call (length given)) left (coded flash call b (length given))
+unfolding coded program_of delay_bound
 ends flash Call.New b given bounds s h c = (_, ends-bind _ (ends-with-config given single_config refl) ends-ret)
 ends flash (Call.WithConfig config) b given bounds s h c = (_, ends-eq (omega arith) (ends-bind _ (ends-with-config given config c) ends-ret))
 ends flash Call.Config b given bounds s h c = (_, ends-ret)
@@ -281,9 +283,9 @@ ends flash (Call.EraseBlock offset) b given bounds s h c =
     let p = unit-passed flash _ EraseKind.Block offset h in
     (_, ends-then (ends-unit given flash bounds EraseKind.Block offset p.0 p.1) ends-ret)
 
-pub reached : (flash : Setup) (call : Call) (b : ℕ) (given : List ℕ) → Bounds nor_driver flash call b (length given) → AllBytes given → Asks (program_of flash call b (length given)) →
-    Reaches given delays (delay_bound flash call (length given)) (program_of flash call b (length given))
-unfolding program_of delay_bound
+pub reached : (flash : Setup) (call : Call) (b : ℕ) (given : List ℕ) → Bounds nor_driver flash call b (length given) → AllBytes given → Asks (coded flash call b (length given)) →
+    Reaches given delays (delay_bound flash call (length given)) (coded flash call b (length given))
+unfolding coded program_of delay_bound
 reached flash Call.New b given bounds s h = ends-reaches (ends flash Call.New b given bounds s h refl).1
 reached flash (Call.WithConfig config) b given bounds s h =
     by_cases (page_taken config.device) (λ c. ends-reaches (ends flash (Call.WithConfig config) b given bounds s h c).1) (λ c. refused-with-config given config c _)

@@ -22,7 +22,7 @@ use Rattle.spi_nor.proofs.Pieces.{chunk-within}
 use Rattle.spi_nor.specs.declared.setup.Setup.{Setup}
 use Rattle.nor_runs.specs.Chip.{InTurn, joined}
 use Rattle.nor_runs.specs.Observer.{Piece, piece}
-use Rattle.nor_runs.specs.Rust.{read-loop, reading, read}
+use Rattle.nor_runs.proofs.AsCoded.{read-loop, reading, read}
 use Rattle.nor_runs.proofs.Loops.{chunk-some}
 use Rattle.nor_runs.proofs.Pieces.{joined-more, in-turn-more}
 use Rattle.nor_runs.proofs.SeenTransfers as Transfers

@@ -28,7 +28,7 @@ use Rattle.spi_nor.specs.declared.opcode.Operation.{Operation}
 use Rattle.spi_nor.specs.declared.setup.Setup.{Setup}
 use Rattle.nor_runs.specs.Chip.{InTurn, joined, places, SameAsLent}
 use Rattle.nor_runs.specs.Observer.{Piece, piece, Sight}
-use Rattle.nor_runs.specs.Rust.{read_back, page-program, write-loop, writing, write}
+use Rattle.nor_runs.proofs.AsCoded.{read_back, page-program, write-loop, writing, write}
 use Rattle.nor_runs.proofs.Loops.{page-some}
 use Rattle.nor_runs.proofs.Pieces.{joined-more, places-more, in-turn-more, same-more}
 use Rattle.nor_runs.proofs.SeenRead.{place-exact}

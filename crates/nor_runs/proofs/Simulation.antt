@@ -32,7 +32,8 @@ use Rattle.nor_steps.specs.Write.{program_from, verify_then, verified_then}
 use Rattle.nor_driver.specs.Wait.{latched_then, resume_task, wait_then, writing_then}
 use Rattle.nor_steps.specs.Erase.{erase_unit, erase_from}
 use Rattle.nor_steps.specs.Protection.{unprotect_first, unprotect_second}
-use Rattle.nor_runs.specs.Rust.{Nothing, busy_value, read-status1, read-status2, is-busy, wait-ready, write-enable, write-status1, write-status2, jedec-id, unique-id, quad-enabled, enable-quad, disable-quad, reading, read_back, page-program, writing, erase-unit, erasing, Unprotected, unprotect, quad-if, with-config}
+use Rattle.nor_runs.specs.Rust.{Nothing, busy_value, read-status1, read-status2, is-busy, wait-ready, write-enable, write-status1, write-status2, jedec-id, unique-id, quad-enabled, enable-quad, disable-quad, Unprotected, unprotect, quad-if}
+use Rattle.nor_runs.proofs.AsCoded.{reading, read_back, page-program, writing, erase-unit, erasing, with-config}
 use Rattle.nor_driver.specs.Call.{fresh_setup}
 use Rattle.nor_runs.specs.Program.{Left, leaving}
 use Rattle.spi_nor.specs.Config.{in_bounds_of}

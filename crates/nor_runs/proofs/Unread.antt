@@ -27,10 +27,13 @@ use Rattle.spi_nor.proofs.Pieces.{chunk-within}
 use Rattle.spi_nor.specs.declared.answer.Answer.{Answer}
 use Rattle.spi_nor.specs.declared.setup.Setup.{Setup}
 use Rattle.spi_nor.specs.declared.call.Call.{Call}
-use Rattle.nor_runs.specs.Rust.{busy_value, wait-ready, reading, read}
+use Rattle.nor_runs.specs.Rust.{busy_value, wait-ready}
+use Rattle.nor_runs.proofs.AsCoded.{reading, read}
 use Rattle.nor_runs.specs.Program.{Left, leaving, program_of}
 use Rattle.nor_runs.specs.Bound.{page_taken, erase_sum, quad_weight, weight_of}
 use Rattle.nor_runs.specs.Run.{sort_of, nor_driver}
+use Rattle.nor_runs.proofs.AsCoded.{coded}
+use Rattle.nor_runs.proofs.Agrees.{same}
 use Rattle.nor_runs.proofs.Loops.{chunk-some, reading-loop}
 use Rattle.nor_runs.proofs.Weights.{weighed}
 
@@ -56,7 +59,7 @@ no-construction true (Some q) = omega arith
 no-construction false q = omega arith
 
 unread : (flash : Setup) (call : Call) (b d : ℕ) → Bounds nor_driver flash call b d → weight_of read_figures flash call b d ≤ 0 → Bounded buffer_reads 0 (program_of flash call b d)
-unread flash call b d h none = bounded-more none (weighed unread-figures flash call b d h)
+unread flash call b d h none = rw (same flash call b d h) (bounded-more none (weighed unread-figures flash call b d h))
 
 -- ---- read fills the buffer, place after place
 
@@ -93,7 +96,7 @@ module _ (flash : Setup) (offset len : ℕ) (left : Left) where
 -- ---- every call
 
 pub lent : (flash : Setup) (call : Call) (b d : ℕ) → Bounds nor_driver flash call b d → LendsAs nor_driver flash call b d (takes_of (sort_of call b d))
-unfolding program_of weight_of
+unfolding coded weight_of
 lent flash Call.New b d h = unread flash Call.New b d h (omega arith)
 lent flash (Call.WithConfig config) b d h = unread flash (Call.WithConfig config) b d h (no-construction (page_taken config.device) config.quad)
 lent flash Call.Config b d h = unread flash Call.Config b d h (omega arith)
@@ -108,7 +111,7 @@ lent flash Call.UniqueId b d h = unread flash Call.UniqueId b d h (omega arith)
 lent flash Call.QuadEnabled b d h = unread flash Call.QuadEnabled b d h (omega arith)
 lent flash Call.EnableQuad b d h = unread flash Call.EnableQuad b d h (omega arith)
 lent flash Call.DisableQuad b d h = unread flash Call.DisableQuad b d h (omega arith)
-lent flash (Call.Read offset) b d h = (refl, fills-read flash offset b (leaving flash Answer.Done))
+lent flash (Call.Read offset) b d h = (refl, rw (same flash (Call.Read offset) b d h) (fills-read flash offset b (leaving flash Answer.Done)))
 lent flash (Call.Write offset) b d h = unread flash (Call.Write offset) b d h (omega arith)
 lent flash Call.Unprotect b d h = unread flash Call.Unprotect b d h (omega arith)
 lent flash (Call.Erase from to) b d h = unread flash (Call.Erase from to) b d h (no-sum flash.device (to - from) from to)

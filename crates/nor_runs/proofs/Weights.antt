@@ -30,9 +30,11 @@ use Rattle.spi_nor.proofs.DeviceBounds.{device_bounds}
 use Rattle.spi_nor.specs.declared.call.Call.{Call}
 use Rattle.nor_driver.specs.Call.{given_at}
 use Rattle.nor_steps.specs.Register.{device_at, device_for, id_of}
-use Rattle.nor_runs.specs.Rust.{read-status1, read-status2, is-busy, wait-ready, write-enable, write-status1, write-status2, jedec-id, unique-id, quad-enabled, enable-quad, disable-quad, reading, read, read_back, page-program, writing, write, erase-unit, erase-loop, erasing, erase, unprotect, quad-if, with-config}
+use Rattle.nor_runs.specs.Rust.{read-status1, read-status2, is-busy, wait-ready, write-enable, write-status1, write-status2, jedec-id, unique-id, quad-enabled, enable-quad, disable-quad, unprotect, quad-if}
+use Rattle.nor_runs.proofs.AsCoded.{reading, read, read_back, page-program, writing, write, erase-unit, erase-loop, erasing, erase, with-config}
 use Rattle.nor_runs.specs.Bound.{page_taken, erase_sum, pieces, task, unit, paged, enabling_quad, quad_weight, constructing, weight_of}
 use Rattle.nor_runs.specs.Program.{program_of}
+use Rattle.nor_runs.proofs.AsCoded.{coded}
 use Rattle.nor_runs.specs.Run.{nor_driver}
 use Rattle.spi_nor.specs.declared.config.NorJedecId.{NorJedecId}
 use Rattle.spi_nor.specs.declared.config.SpiNorConfig.{SpiNorConfig}
@@ -243,8 +245,8 @@ module _ {w : Transfer → ℕ} {x : Figures Operation} (figures : Weighs w x wa
 
   -- ---- every call
 
-  pub weighed : (flash : Setup) (call : Call) (b d : ℕ) → Bounds nor_driver flash call b d → Bounded w (weight_of x flash call b d) (program_of flash call b d)
-  unfolding program_of weight_of
+  pub weighed : (flash : Setup) (call : Call) (b d : ℕ) → Bounds nor_driver flash call b d → Bounded w (weight_of x flash call b d) (coded flash call b d)
+  unfolding coded program_of weight_of
   weighed flash Call.New b d h = answered _ (omega arith) (bounded-with-config single_config)
   weighed flash (Call.WithConfig config) b d h = answered _ (omega arith) (bounded-with-config config)
   weighed flash Call.Config b d h = bounded-ret

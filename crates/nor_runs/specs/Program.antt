@@ -1,5 +1,6 @@
 -- The Rust's program of each call, with the answer and the driver that it leaves behind.
 use Rattle.std.specs.Prelude.{ℕ}
+use Rattle.qspi.specs.declared.transfer.Sink.{Sink}
 use Rattle.spi_flash.specs.Prog.{Prog, ret, ◌>>=◌, ◌>>◌}
 use Rattle.flash_runs.specs.Driver as Driver
 use Rattle.nor_runs.specs.Rust.{read-status1, read-status2, is-busy, jedec-id, unique-id, quad-enabled, enable-quad, disable-quad, read, write, erase-sector, erase-block, erase, unprotect, with-config, new}
@@ -30,7 +31,7 @@ program_of flash Call.UniqueId b d = unique-id >>= (λ v. ret (leaving flash (An
 program_of flash Call.QuadEnabled b d = quad-enabled >>= (λ enabled. ret (leaving flash (Answer.Flag enabled)))
 program_of flash Call.EnableQuad b d = enable-quad >> ret (leaving flash Answer.Done)
 program_of flash Call.DisableQuad b d = disable-quad >> ret (leaving flash Answer.Done)
-program_of flash (Call.Read offset) b d = read flash offset b >> ret (leaving flash Answer.Done)
+program_of flash (Call.Read offset) b d = read flash (λ done. Sink.Buffer done) offset b >> ret (leaving flash Answer.Done)
 program_of flash (Call.Write offset) b d = write flash offset d >> ret (leaving flash Answer.Done)
 program_of flash Call.Unprotect b d = unprotect >>= (λ u. ret (leaving flash (Answer.Unprotected u.before u.after)))
 program_of flash (Call.Erase from to) b d = erase flash from to >> ret (leaving flash Answer.Done)

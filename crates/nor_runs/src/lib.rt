@@ -2,7 +2,10 @@
 #![tactic(auto)]
 
 ghost use Rattle.nor_runs.specs.Chip.{DeliversTheChip};
+ghost use Rattle.nor_runs.specs.Loops.{NorLoops};
+ghost use Rattle.nor_runs.specs.NothingWraps.{NothingWraps};
 ghost use Rattle.nor_runs.specs.Run.{nor_driver, NorPromises};
+ghost use Rattle.nor_runs.specs.SameWords.{SameWords};
 ghost use Rattle.nor_runs.specs.Shams.{NorShamsFail};
 
 /// Over every run of the NOR driver: who is refused and why, what happens to lent bytes, that every action, result and delivered byte
@@ -22,4 +25,19 @@ pub fn nor_shams_fail()
 /// written, each page as it was lent when it was compared.
 pub fn nor_delivers_the_chip()
     ensures { DeliversTheChip nor_driver }
+{}
+
+/// The transcribed loops of `read`, `write` and `erase` are those of the Rust, turn by turn, and the read-back of a page is one transfer.
+pub fn nor_loops_turn_as_the_rusts()
+    ensures { NorLoops }
+{}
+
+/// Inside the bounds the driver's words for sums, pieces, tests, transfers, devices and settings come to those of the Rust.
+pub fn nor_words_say_the_rusts()
+    ensures { SameWords }
+{}
+
+/// Inside the bounds no operation of the Rust wraps, goes below 0, divides by 0 or slices past an end.
+pub fn nor_never_wraps()
+    ensures { NothingWraps }
 {}
