@@ -27,4 +27,5 @@ pub mod Shams
 pub mod AtOnce
 pub mod Contents
 pub mod NoRun
+pub mod EndsAsking
 pub mod WatchedCalls

@@ -22,7 +22,7 @@ use Rattle.nand_runs.specs.Program.{rust_program}
 use Rattle.nand_runs.specs.Run.{sort_of, nand_driver}
 use Rattle.nand_runs.proofs.Known.{known}
 use Rattle.nand_runs.proofs.SeenSteps.{read-at-once}
-use Rattle.nand_runs.proofs.Promises.{seen}
+use Rattle.nand_runs.proofs.ReadPromises.{seen}
 
 abbrev first : List ℕ → ℕ
 first [] = 0

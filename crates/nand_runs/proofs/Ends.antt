@@ -28,7 +28,7 @@ use Rattle.spi_nand.proofs.Geometries.{geometries-hold}
 use Rattle.spi_nand.specs.Setup.{init_of}
 use Rattle.spi_nand.specs.Transfer.{cache_read_at, cache_read_transfer, cache_load_at, cache_load_transfer, in_cache, in_range}
 use Rattle.spi_nand.specs.declared.setup.Setup.{Setup}
-use Rattle.nand_runs.specs.Rust.{MAX-VERIFY-PAGE-SIZE, read-register, read-status, read-configuration, read-protection, write-enable, write-register, disable-quad, reset, id-of, jedec-id, reset-and-identify, wanted-of, ensure-configuration, unprotect, bring-up, load-page, page-read, read-cache, load-program-data, program-execute, read-page, write-page, erase-block, reading, read, is-bad-block, filling, mark-bad-block, resolved, constructed, with-config}
+use Rattle.nand_runs.specs.Rust.{MAX-VERIFY-PAGE-SIZE, read-register, read-status, read-configuration, read-protection, write-enable, write-register, disable-quad, reset, id-of, jedec-id, reset-and-identify, wait-ready, wanted-of, ensure-configuration, unprotect, bring-up, load-page, page-read, read-cache, load-program-data, program-execute, read-page, write-page, erase-block, reading, read, is-bad-block, filling, mark-bad-block, resolved, constructed, with-config}
 use Rattle.nand_runs.specs.Program.{page_taken, refused-page}
 use Rattle.nand_runs.specs.Bound.{pages_touched, fillers}
 use Rattle.nand_runs.specs.ProgramBounds.{PageFits, BlockFits, WholePage}
@@ -45,6 +45,9 @@ GOOD = 0xFF
 -- what a construction finds on these replies
 abbrev pub found : NandInit
 found = init_of (id-of 0) (configuration_of 0) (configuration_of 0) (protection_of BLOCK-PROTECT-MASK)
+
+no-turns : (k d : ℕ) → k ≡ 0 → k * d ≡ 0
+no-turns k d e = rw e (omega arith)
 
 module _ (given : List ℕ) where
   -- ---- registers
@@ -136,14 +139,22 @@ module _ (given : List ℕ) where
 
   -- ---- pages
 
-  ends-load-page : (page : ℕ) → Ends given delays 400000 tt (load-page page)
+  -- by a wait that asks d
+  load-page-by : {d : ℕ} → Ends given delays d tt (wait-ready Operation.PageRead) → (page : ℕ) → Ends given delays d tt (load-page page)
   unfolding load-page
-  ends-load-page page = ends-then (ends-transfer 0 refl) (wait-ends given Operation.PageRead)
+  load-page-by waits page = ends-eq (omega arith) (ends-then (ends-transfer 0 refl) waits)
+
+  ends-load-page : (page : ℕ) → Ends given delays 400000 tt (load-page page)
+  ends-load-page page = load-page-by (wait-ends given Operation.PageRead) page
 
   module _ (flash : Setup) where
-    pub ends-page-read : (page : ℕ) → PageFits flash page → Ends given delays 400000 tt (page-read flash page)
+    page-read-by : {d : ℕ} → Ends given delays d tt (wait-ready Operation.PageRead) → (page : ℕ) → PageFits flash page → Ends given delays d tt (page-read flash page)
     unfolding page-read verdict_of
-    ends-page-read page fits = ends-guard _ _ (ap not fits) (ends-then (ends-load-page page) (ends-bind _ (ends-status 0 (lit< tt)) (ends-refuse _ _ refl)))
+    page-read-by waits page fits =
+        ends-guard _ _ (ap not fits) (ends-eq (omega arith) (ends-then (load-page-by waits page) (ends-bind _ (ends-status 0 (lit< tt)) (ends-refuse _ _ refl))))
+
+    pub ends-page-read : (page : ℕ) → PageFits flash page → Ends given delays 400000 tt (page-read flash page)
+    ends-page-read page fits = page-read-by (wait-ends given Operation.PageRead) page fits
 
     pub ends-read-cache : (column n v : ℕ) (sink : Sink) → in_cache flash.geometry column n ≡ true → Answers given n sink v → Ends given delays 0 v (read-cache flash column n sink)
     unfolding read-cache cache_read_transfer
@@ -201,21 +212,27 @@ module _ (given : List ℕ) where
         abbrev within : offset + len ≤ flash.geometry.pages_per_block * flash.geometry.block_count * size
         within = in-range flash.geometry bounds offset len r
 
-        ends-piece : (done : ℕ) → done < len → Ends given delays 400000 0 (read-piece flash (some-page flash.geometry bounds) offset len done)
-        ends-piece done below =
-            let there = place-of flash.geometry bounds offset len within done (omega arith) in
-            let piece = chunk-within flash.geometry bounds offset len within done below in
-            ends-then (ends-page-read _ (page-fits flash.geometry bounds _ (omega (arith, within))))
-            (ends-read-cache _ _ 0 _ (in-cache flash.geometry bounds _ _ (omega arith)) (delivery given _ _))
+        -- each page by a wait that asks d
+        module _ (d : ℕ) (waits : Ends given delays d tt (wait-ready Operation.PageRead)) where
+          piece-by : (done : ℕ) → done < len → Ends given delays d 0 (read-piece flash (some-page flash.geometry bounds) offset len done)
+          piece-by done below =
+              let there = place-of flash.geometry bounds offset len within done (omega arith) in
+              let piece = chunk-within flash.geometry bounds offset len within done below in
+              ends-eq (omega arith)
+              (ends-then (page-read-by waits _ (page-fits flash.geometry bounds _ (omega (arith, within))))
+              (ends-read-cache _ _ 0 _ (in-cache flash.geometry bounds _ _ (omega arith)) (delivery given _ _)))
+
+          pub read-by : Ends given delays (pages_touched flash.geometry offset len * d) tt (read flash offset len)
+          unfolding read
+          read-by =
+              ends-guard _ _ (ap not r)
+              (ends-loop len _ _ (reading flash offset len) (reading-pieces flash (some-page flash.geometry bounds) offset len) (page-turns flash.geometry bounds offset len within)
+              (λ k done stop t. let z = pages-done flash.geometry bounds offset len within done stop in no-turns k d (omega arith))
+              (λ k done below t. (0, piece-by done below))
+              (pages_touched flash.geometry offset len) 0 (pages-first flash.geometry bounds offset len within))
 
         pub ends_read : Ends given delays (pages_touched flash.geometry offset len * 400000) tt (read flash offset len)
-        unfolding read
-        ends_read =
-            ends-guard _ _ (ap not r)
-            (ends-loop len _ _ (reading flash offset len) (reading-pieces flash (some-page flash.geometry bounds) offset len) (page-turns flash.geometry bounds offset len within)
-            (λ k done stop t. let z = pages-done flash.geometry bounds offset len within done stop in omega arith)
-            (λ k done below t. (0, ends-piece done below))
-            (pages_touched flash.geometry offset len) 0 (pages-first flash.geometry bounds offset len within))
+        ends_read = read-by 400000 (wait-ends given Operation.PageRead)
 
       -- ---- bad blocks
 

@@ -8,7 +8,6 @@ pub mod Opens
 pub mod Is
 pub mod Lent
 pub mod Known
-pub mod Promises
 pub mod Waits
 pub mod ReadLoop
 pub mod FillLoop
@@ -24,6 +23,8 @@ pub mod SeenRead
 pub mod LeastDelay
 pub mod SeenRuns
 pub mod SeenSteps
+pub mod ReadPromises
+pub mod Promises
 pub mod Shams
 pub mod ShamDrivers
 pub mod Chip

@@ -1,15 +1,16 @@
 -- The promises of the NAND driver over every run. Those that both drivers keep are the general ones (specs/Promises.antt of
 -- flash_runs, of `nand_driver`); here stands what the NAND has of its own, and demand 3 whole.
-use Rattle.std.specs.Prelude.{ℕ, true, false, ◌≡◌, List, [], length}
+use Rattle.std.specs.Prelude.{ℕ, ◌*◌, true, false, ◌≡◌, List, [], length}
 use Rattle.qspi.specs.Bytes.{AllBytes}
 use Rattle.qspi.specs.declared.transfer.Transfer.{Transfer}
 use Rattle.spi_flash.specs.Loan.{Lent}
 use Rattle.spi_flash.specs.OnBus.{program_on_bus, performed}
 use Rattle.spi_flash.specs.Prog.{Prog, fail, ◌>>=◌, ◌>>◌, transfer}
-use Rattle.spi_flash.specs.Run.{Event, Entry}
+use Rattle.spi_flash.specs.Run as Run
+use Rattle.spi_flash.specs.Run.{Event, Entry, delay_asked, Fitting, RealReplies, answering, Lending}
 use Rattle.spi_flash.specs.Seen.{Did, told, replies_of, Undisturbed}
 use Rattle.spi_flash.specs.declared.error.FlashError.{FlashError}
-use Rattle.flash_runs.specs.Driver.{Driver, run_at, steps_at}
+use Rattle.flash_runs.specs.Driver.{Driver, takes_at, run_at, steps_at}
 use Rattle.flash_runs.specs.WithinBound.{Begun, EndsWell, WithinBound}
 use Rattle.flash_runs.specs.Promises.{Promises}
 use Rattle.flash_runs.specs.Reading.{ChangesRead, HoldsRead}
@@ -20,6 +21,8 @@ use Rattle.spi_nand.specs.declared.answer.Answer.{Answer}
 use Rattle.spi_nand.specs.declared.call.Call.{Call}
 use Rattle.spi_nand.specs.declared.setup.Setup.{Setup}
 use Rattle.nand_driver.specs.Settle.{SpiNandFlash}
+use Rattle.flash_runs.specs.Watch.{Succeeded}
+use Rattle.nand_runs.specs.Bound.{pages_touched}
 use Rattle.nand_runs.specs.Observer.{reads_cache}
 use Rattle.nand_runs.specs.Program.{Left, rust_program, large_page}
 use Rattle.nand_runs.specs.ReadSeen.{ReadSeen}
@@ -57,6 +60,16 @@ module _ {F : Type 0} (driver : Driver F Call Setup Answer) where
   abbrev pub run_of_read : F → ℕ → Lent → List (Event Call) → List (Entry Call Left)
   run_of_read flash offset l es = run_at driver flash (Call.Read offset) l es
 
+  -- replies on which the call ends well, having asked b microseconds, whatever scratch and buffer are lent with the caller's data
+  pub record EndsAsking (flash : F) (call : Call) (l : Lent) (b : ℕ) : Type 0 where
+    pub replies : List Run.Answer
+    pub real : RealReplies replies
+    pub fits : (ls : List Lent) → length ls ≡ length replies → Lending (takes_at driver call l) l.given ls → Fitting (run_at driver flash call l (answering replies ls))
+    pub succeeds : (ls : List Lent) → length ls ≡ length replies → Lending (takes_at driver call l) l.given ls →
+        Succeeded (run_at driver flash call l (answering replies ls))
+    pub asks : (ls : List Lent) → length ls ≡ length replies → Lending (takes_at driver call l) l.given ls →
+        delay_asked (run_at driver flash call l (answering replies ls)) ≡ b
+
   -- docs/SPECIFICATION.md, "Waits and bounds" and "Reads on the bus"
   pub record ReadsAsAsked : Type 0 where
     -- no call asks more than its bound, some replies bring it there, and every call ends
@@ -67,8 +80,12 @@ module _ {F : Type 0} (driver : Driver F Call Setup Answer) where
         ReadSeen (steps_at driver flash (Call.Read offset) l es) (driver.setup flash).geometry offset (length l.buffer)
     pub read_runs : (flash : F) (offset : ℕ) (l : Lent) (es : List (Event Call)) →
         ReadSeen (run_of_read flash offset l es) (driver.setup flash).geometry offset (length l.buffer)
-    -- a read that has begun ends well on some replies
+    -- a read that has begun ends well on some replies, and on some having asked no more than it must, and on some all that it may
     pub read_ends : (flash : F) (offset : ℕ) (l : Lent) → AllBytes l.given → Begun driver flash (Call.Read offset) l → EndsWell driver flash (Call.Read offset) l
+    pub read_least : (flash : F) (offset : ℕ) (l : Lent) → AllBytes l.given → Begun driver flash (Call.Read offset) l →
+        EndsAsking flash (Call.Read offset) l (10 * pages_touched (driver.setup flash).geometry offset (length l.buffer))
+    pub read_most : (flash : F) (offset : ℕ) (l : Lent) → AllBytes l.given → Begun driver flash (Call.Read offset) l →
+        EndsAsking flash (Call.Read offset) l (400000 * pages_touched (driver.setup flash).geometry offset (length l.buffer))
     -- in the caller's buffer only the places of the bytes read so far change, whatever the replies
     pub changes : (flash : F) (offset : ℕ) (l : Lent) (es : List (Event Call)) → ChangesRead reads_cache false 0 (run_of_read flash offset l es)
     -- where nobody else writes, the buffer holds those bytes at their places, and its old bytes elsewhere
