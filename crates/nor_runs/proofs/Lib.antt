@@ -23,3 +23,4 @@ pub mod Pieces
 pub mod SeenRead
 pub mod SeenWrite
 pub mod Chip
+pub mod ShamRuns

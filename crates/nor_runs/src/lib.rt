@@ -6,6 +6,7 @@ ghost use Rattle.nor_runs.specs.Loops.{NorLoops};
 ghost use Rattle.nor_runs.specs.NothingWraps.{NothingWraps};
 ghost use Rattle.nor_runs.specs.Run.{nor_driver, NorPromises};
 ghost use Rattle.nor_runs.specs.SameWords.{SameWords};
+ghost use Rattle.nor_runs.specs.ShamRuns.{ShamRunsFail};
 ghost use Rattle.nor_runs.specs.Shams.{NorShamsFail};
 
 /// Over every run of the NOR driver: who is refused and why, what happens to lent bytes, that every action, result and delivered byte
@@ -40,4 +41,10 @@ pub fn nor_words_say_the_rusts()
 /// Inside the bounds no operation of the Rust wraps, goes below 0, divides by 0 or slices past an end.
 pub fn nor_never_wraps()
     ensures { NothingWraps }
+{}
+
+/// What is seen on the bus tells sham runs from lawful ones: a piece read at the offset again, bytes of another address, a command that the
+/// chip takes otherwise, a page not read back, not compared, or read back from another place than it was written to.
+pub fn nor_sham_runs_fail()
+    ensures { ShamRunsFail }
 {}

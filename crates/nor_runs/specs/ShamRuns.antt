@@ -1,0 +1,181 @@
+-- Runs of a NOR's read and write that sham drivers would show, beside lawful ones (docs/SPECIFICATION.md, "Shams" and "Reads on the bus"):
+-- each of 2 bytes at place 5. The observer allows the lawful runs and none of the shams, for one thing that each does otherwise.
+use Rattle.std.specs.Prelude.{ℕ, List, [], ◌∷◌, ◌++◌, Option, Some, None}
+use Rattle.qspi.specs.Shown.{Shown, low, high, write, read, quad_read, quad_write}
+use Rattle.qspi.specs.declared.bus.Reply.{Reply}
+use Rattle.spi_flash.specs.Loan.{Lent}
+use Rattle.spi_flash.specs.Run.{Event, reply, call, Given, act, ended, Entry}
+use Rattle.flash_runs.specs.Shams.{Subject, in_place, ClaimsAll}
+use Rattle.spi_nor.specs.Config.{quad_w25q128jv}
+use Rattle.spi_nor.specs.declared.answer.Answer.{Answer}
+use Rattle.spi_nor.specs.declared.call.Call.{Call}
+use Rattle.spi_nor.specs.declared.config.NorQuadConfig.{NorQuadConfig}
+use Rattle.spi_nor.specs.declared.setup.Setup.{Setup}
+use Rattle.nor_runs.specs.Chip.{ReadSeen, WriteSeen, DeliversTheChip}
+use Rattle.nor_runs.specs.Run.{nor_driver}
+use Rattle.nor_runs.specs.Shams.{Memory}
+
+-- ---- how a run is written down
+
+-- an action, and the host's reply to it
+pub record Exchange : Type 0 where
+  pub shown : Shown
+  pub kind : Reply
+  pub bytes : List ℕ
+
+abbrev pub done : Shown → Exchange
+done shown = record { shown = shown; kind = Reply.Done; bytes = [] }
+
+abbrev pub got : Shown → List ℕ → Exchange
+got shown bytes = record { shown = shown; kind = Reply.Data; bytes = bytes }
+
+-- the data, which only a write takes; the observer looks at no other lent byte
+abbrev pub lent : Lent
+lent = record { scratch = []; buffer = []; given = 161 ∷ 178 ∷ [] }
+
+abbrev pub Seen : Type 0
+Seen = Entry (Unit {0}) (Unit {0})
+
+abbrev pub gave : Event (Unit {0}) → Given (Unit {0}) → Seen
+gave event given = record { event = event; given = given; left = lent }
+
+-- the exchanges one after the other, then what follows the last reply
+abbrev pub run_from : Event (Unit {0}) → List Exchange → (Event (Unit {0}) → List Seen) → List Seen
+run_from event [] rest = rest event
+run_from event (x ∷ xs) rest = gave event (act x.shown) ∷ run_from (reply x.kind x.bytes lent) xs rest
+
+-- a good end, or an action more
+abbrev pub claimed : List Exchange → List Seen
+claimed xs = run_from (call tt lent) xs (λ event. gave event (ended tt) ∷ [])
+
+abbrev pub going_on : List Exchange → List Seen
+going_on xs = run_from (call tt lent) xs (λ event. gave event (act low) ∷ [])
+
+-- ---- what a run is made of
+
+-- these, written one after the other
+abbrev pub writes : List (List ℕ) → List Exchange
+writes [] = []
+writes (bytes ∷ more) = done (write bytes) ∷ writes more
+
+-- and behind them a read of so many bytes
+abbrev pub asked : List (List ℕ) → List ℕ → ℕ → List Exchange
+asked written answer n = done low ∷ writes written ++ got (read n) answer ∷ done high ∷ []
+
+-- one piece at a place below 256
+abbrev pub piece_at : ℕ → List ℕ → ℕ → List Exchange
+piece_at place answer n = asked ((3 ∷ 0 ∷ 0 ∷ place ∷ []) ∷ []) answer n
+
+abbrev pub quad_piece : (opcode place : ℕ) → List ℕ → ℕ → List Exchange
+quad_piece opcode place answer n = done low ∷ got (quad_read (opcode ∷ 0 ∷ 0 ∷ place ∷ []) 8 0 n) answer ∷ done high ∷ []
+
+-- the bytes on the chip, which are the data of the write
+abbrev pub both_bytes : List ℕ
+both_bytes = 161 ∷ 178 ∷ []
+
+-- ---- a read
+
+abbrev pub read_whole : List Seen
+read_whole = claimed (piece_at 5 both_bytes 2)
+
+abbrev pub read_in_pieces : List Seen
+read_in_pieces = claimed (piece_at 5 (161 ∷ []) 1 ++ piece_at 6 (178 ∷ []) 1)
+
+abbrev pub read_quad : List Seen
+read_quad = claimed (quad_piece 0x6B 5 both_bytes 2)
+
+-- success with no traffic
+abbrev pub no_traffic : List Seen
+no_traffic = claimed []
+
+-- the first piece read, the rest claimed
+abbrev pub rest_claimed : List Seen
+rest_claimed = claimed (piece_at 5 (161 ∷ []) 1)
+
+-- the second piece read at the offset again
+abbrev pub offset_again : List Seen
+offset_again = claimed (piece_at 5 (161 ∷ []) 1 ++ piece_at 5 (161 ∷ []) 1)
+
+-- bytes of another address; of one sent lowest byte first
+abbrev pub other_address : List Seen
+other_address = claimed (piece_at 6 both_bytes 2)
+
+abbrev pub lowest_first : List Seen
+lowest_first = claimed (asked ((3 ∷ 5 ∷ 0 ∷ 0 ∷ []) ∷ []) both_bytes 2)
+
+-- a byte more written between the command and the read, so that the chip is one place on
+abbrev pub one_place_on : List Seen
+one_place_on = claimed (asked ((3 ∷ 0 ∷ 0 ∷ 5 ∷ []) ∷ (0 ∷ []) ∷ []) both_bytes 2)
+
+-- the contents read by the status command; by a quad opcode that is not the caller's
+abbrev pub status_for_contents : List Seen
+status_for_contents = claimed (asked ((5 ∷ []) ∷ []) both_bytes 2)
+
+abbrev pub other_opcode : List Seen
+other_opcode = claimed (quad_piece 0xEB 5 both_bytes 2)
+
+-- ---- a write, with a page of 2
+
+abbrev pub programmed_at : ℕ → List Exchange
+programmed_at place = done low ∷ done (write (2 ∷ 0 ∷ 0 ∷ place ∷ [])) ∷ done (write both_bytes) ∷ done high ∷ []
+
+abbrev pub quad_programmed : List Exchange
+quad_programmed = done low ∷ done (quad_write (0x32 ∷ 0 ∷ 0 ∷ 5 ∷ []) both_bytes) ∷ done high ∷ []
+
+abbrev pub written_back : List Seen
+written_back = claimed (programmed_at 5 ++ piece_at 5 both_bytes 2)
+
+abbrev pub written_quad : List Seen
+written_quad = claimed (quad_programmed ++ quad_piece 0x6B 5 both_bytes 2)
+
+-- not read back; read back otherwise, and taken for the data; read back from another place
+abbrev pub not_read_back : List Seen
+not_read_back = claimed (programmed_at 5)
+
+abbrev pub not_compared : List Seen
+not_compared = claimed (programmed_at 5 ++ piece_at 5 (161 ∷ 0 ∷ []) 2)
+
+abbrev pub other_place : List Seen
+other_place = claimed (programmed_at 5 ++ piece_at 7 both_bytes 2)
+
+-- written elsewhere than read back; never written; read back before it was written
+abbrev pub written_elsewhere : List Seen
+written_elsewhere = claimed (programmed_at 7 ++ piece_at 5 both_bytes 2)
+
+abbrev pub never_written : List Seen
+never_written = claimed (piece_at 5 both_bytes 2)
+
+abbrev pub read_back_first : List Seen
+read_back_first = going_on (piece_at 5 both_bytes 2)
+
+-- ---- the statement
+
+abbrev pub quad : Option NorQuadConfig
+quad = Some quad_w25q128jv
+
+pub record ShamRunsFail : Type 0 where
+  -- lawful reads
+  pub whole : ReadSeen None read_whole 5 2
+  pub in_pieces : ReadSeen None read_in_pieces 5 2
+  pub by_quad : ReadSeen quad read_quad 5 2
+  -- sham reads
+  pub no-traffic : ReadSeen None no_traffic 5 2 → ⊥
+  pub rest-claimed : ReadSeen None rest_claimed 5 2 → ⊥
+  pub offset-again : ReadSeen None offset_again 5 2 → ⊥
+  pub other-address : ReadSeen None other_address 5 2 → ⊥
+  pub lowest-first : ReadSeen None lowest_first 5 2 → ⊥
+  pub one-place-on : ReadSeen None one_place_on 5 2 → ⊥
+  pub status-for-contents : ReadSeen None status_for_contents 5 2 → ⊥
+  pub other-opcode : ReadSeen quad other_opcode 5 2 → ⊥
+  -- lawful writes
+  pub back : WriteSeen None written_back 5 2
+  pub back_by_quad : WriteSeen quad written_quad 5 2
+  -- sham writes
+  pub not-read_back : WriteSeen None not_read_back 5 2 → ⊥
+  pub not-compared : WriteSeen None not_compared 5 2 → ⊥
+  pub other-place : WriteSeen None other_place 5 2 → ⊥
+  pub written-elsewhere : WriteSeen None written_elsewhere 5 2 → ⊥
+  pub never-written : WriteSeen None never_written 5 2 → ⊥
+  pub read_back-first : WriteSeen None read_back_first 5 2 → ⊥
+  -- and no driver that claims success with no traffic delivers the chip
+  pub claiming : (sham : Subject Memory Call Setup Answer) → ClaimsAll (in_place nor_driver sham) → DeliversTheChip (in_place nor_driver sham) → ⊥
