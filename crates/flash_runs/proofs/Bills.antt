@@ -1,9 +1,9 @@
 -- The bill, the end and the good end of every call, from the program that it follows.
 use Prim.Native.Nat.{ℕ, ◌≤◌}
 use native.Mathlib.Omega.{arith}
-use mathlib.Core.Bool.{true}
+use mathlib.Core.Bool.{true, false}
 use mathlib.Core.Logic.{⊎_elim}
-use mathlib.Core.Path.{◌≡◌, ap, subst}
+use mathlib.Core.Path.{◌≡◌, refl, ap, subst}
 use mathlib.Core.List.{List, [], ◌∷◌}
 use lib.ListN.{length}
 use Rattle.qspi.specs.Bytes.{AllBytes}
@@ -20,10 +20,13 @@ use Rattle.spi_flash.specs.Run.{Event, reply, call, delay_asked, Fitting, HasEnd
 use Rattle.spi_flash.specs.Machine.{Decision, more, well, bad, Config, machine, out, lent_as, settle, moved, Trail, decided_trail, heard_trail, trail}
 use Rattle.spi_flash.proofs.Runs.{heard-view, first-delay, trail-asks, run-bound, run_ends}
 use Rattle.spi_flash.proofs.Reach.{reached}
-use Rattle.flash_runs.specs.Driver.{Left, Driver, takes_at, program_at, bound_at, actions_at, ends_at, run_at}
-use Rattle.flash_runs.specs.WithinBound.{ending_as, ended_as, EndsAs, ComesTo, EndsWell, WithinBound}
+use Rattle.flash_runs.specs.Driver.{Left, Driver, takes_at, program_at, bound_at, most_actions_at, ends_at, run_at, steps_at}
+use Rattle.flash_runs.specs.WithinBound.{GivesAction, bill_of, bill_at, ending_as, ended_as, EndsAs, ComesTo, EndsWell, WithinBound}
 use Rattle.flash_runs.proofs.General.{Parts, Place, decide_next}
 use Rattle.flash_runs.proofs.Supplies.{Asks, Supplies, Known}
+use Rattle.flash_runs.proofs.Judged.{refuses-just}
+use Rattle.flash_runs.proofs.Refusals.{refusals-keep}
+use Rattle.flash_runs.proofs.NoRun.{acts-alike, quiet-asked}
 use Rattle.flash_runs.proofs.Views.{shape, Opens, Nothing-begun, view, begun-opens, no_run, opens-run}
 
 -- where the path of a run has ended well, the run has ended with that answer
@@ -137,13 +140,13 @@ module _ {F C S A : Type 0} {driver : Driver F C S A} (known : Known driver) whe
 
     -- ---- every call ends
 
-    run-has-ended : (es : List (Event C)) → Opened → Fitting (run_at driver flash c l es) → actions_at driver flash c l ≤ length es → HasEnded (run_at driver flash c l es)
+    run-has-ended : (es : List (Event C)) → Opened → Fitting (run_at driver flash c l es) → most_actions_at driver flash c l ≤ length es → HasEnded (run_at driver flash c l es)
     unfolding Fitting HasEnded
     run-has-ended es o fit long =
         let e = opens-run known flash o es in
         rw e
         (run_ends (decide_next parts) (takes_at driver c l) known.Valid meaning supplies.simulates o.first o.at o.valid
-        (subst (Bounded actions (actions_at driver flash c l)) o.program (supplies.acts s c b d o.bounds))
+        (subst (Bounded actions (most_actions_at driver flash c l)) o.program (supplies.acts s c b d o.bounds))
         es (rw e at fit) long)
 
     -- ---- and ends well on some replies
@@ -163,9 +166,31 @@ module _ {F C S A : Type 0} {driver : Driver F C S A} (known : Known driver) whe
               (ends-with C (decide_next parts) driver.values (takes_at driver c l) e.1 o.at (first_of o.first) (answering r.0 ls) (well-done e.1 e.0 _ _ (r.2.leads ls n w)));
         }
 
+  -- ---- over the steps on a driver at rest
+
+  module _ (flash : F) (c : C) (l : Lent) (es : List (Event C)) (free : driver.system.running flash ≡ false) where
+    abbrev Billed : Run.Given (Left S A) → Type 0
+    Billed g = delay_asked (steps_at driver flash c l es) ≤ bill_of g (bound_at driver flash c l)
+
+    silent : (g : Run.Given (Left S A)) → (driver.system.begin flash c l).given ≡ g → (GivesAction g → ⊥) → delay_asked (steps_at driver flash c l es) ≡ 0
+    silent g is quiet = quiet-asked (refuses-just known) (refusals-keep driver parts known.is) flash c l free (λ h. quiet (subst GivesAction is h)) es
+
+    billed-as : (g : Run.Given (Left S A)) → (driver.system.begin flash c l).given ≡ g → Billed g
+    billed-as (Run.act shown) is =
+        let same = ap delay_asked (acts-alike driver.system flash c l es shown is) in
+        omega (arith, same, never-passed flash c l es)
+    billed-as (Run.ended a) is = omega (arith, silent (Run.ended a) is (λ h. h))
+    billed-as (Run.failed e) is = omega (arith, silent (Run.failed e) is (λ h. h))
+    billed-as (Run.refused e) is = omega (arith, silent (Run.refused e) is (λ h. h))
+
+    billed : delay_asked (steps_at driver flash c l es) ≤ bill_at driver flash c l
+    billed = billed-as (driver.system.begin flash c l).given refl
+
   pub within_bound : WithinBound driver
   within_bound = record {
     bounded = never-passed;
+    billed = billed;
+    without_run = λ flash c l es free silent. quiet-asked (refuses-just known) (refusals-keep driver parts known.is) flash c l free silent es;
     reached = λ flash c l small h. comes-to flash c l small (begun-opens known flash c l h);
     ends = λ flash c l es h fit long. run-has-ended flash c l es (begun-opens known flash c l h) fit long;
     ends_well = λ flash c l small h can. comes-well flash c l small can (begun-opens known flash c l h);

@@ -61,9 +61,10 @@ pub record Driver (F C S A : Type 0) : Type 0 where
   pub in_bounds : S → Bool
   -- the program that the driver follows
   pub program : S → C → ℕ → ℕ → Prog (Left S A)
-  -- the largest sum of delays that the call asks for; and how many actions it gives out at most
+  -- the largest sum of delays that the call asks for, which some replies bring it to; and a number of actions that it does not pass, which
+  -- need not be the largest
   pub delay_bound : S → C → ℕ → ℕ → ℕ
-  pub action_bound : S → C → ℕ → ℕ → ℕ
+  pub most_actions : S → C → ℕ → ℕ → ℕ
   -- whether the call, once begun, ends well on some replies
   pub can_end : S → C → ℕ → ℕ → Bool
   -- an answer's values
@@ -86,8 +87,8 @@ module _ {F C S A : Type 0} (driver : Driver F C S A) where
   abbrev pub bound_at : F → C → Lent → ℕ
   bound_at flash call l = driver.delay_bound (driver.setup flash) call (length l.buffer) (length l.given)
 
-  abbrev pub actions_at : F → C → Lent → ℕ
-  actions_at flash call l = driver.action_bound (driver.setup flash) call (length l.buffer) (length l.given)
+  abbrev pub most_actions_at : F → C → Lent → ℕ
+  most_actions_at flash call l = driver.most_actions (driver.setup flash) call (length l.buffer) (length l.given)
 
   abbrev pub ends_at : F → C → Lent → Bool
   ends_at flash call l = driver.can_end (driver.setup flash) call (length l.buffer) (length l.given)

@@ -42,7 +42,7 @@ module _ {F C S A : Type 0} (driver : Driver F C S A) where
         in_bounds = driver.in_bounds;
         program = driver.program;
         delay_bound = bound;
-        action_bound = driver.action_bound;
+        most_actions = driver.most_actions;
         can_end = driver.can_end;
         values = driver.values;
         reads = driver.reads;

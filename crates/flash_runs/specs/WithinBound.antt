@@ -1,11 +1,11 @@
 -- The delays and actions of a call over every run: it never asks more than its bound, some replies bring it there, it comes to an end and
 -- on some replies ends well (docs/SPECIFICATION.md, "Waits and bounds" and "Runs").
-use Rattle.std.specs.Prelude.{ℕ, ◌≤◌, true, ◌≡◌, List, [], ◌∷◌, length}
+use Rattle.std.specs.Prelude.{ℕ, ◌≤◌, true, false, ◌≡◌, List, [], ◌∷◌, length}
 use Rattle.qspi.specs.Bytes.{AllBytes}
 use Rattle.spi_flash.specs.Ending.{Ending, goes, ends_with, ends_by}
 use Rattle.spi_flash.specs.Loan.{Lent}
 use Rattle.spi_flash.specs.Run.{Event, Entry, Given, act, ended, failed, refused, delay_asked, Fitting, HasEnded, Answer, RealReplies, answering, Lending}
-use Rattle.flash_runs.specs.Driver.{Left, Driver, takes_at, bound_at, actions_at, ends_at, run_at}
+use Rattle.flash_runs.specs.Driver.{Left, Driver, takes_at, bound_at, most_actions_at, ends_at, run_at, steps_at}
 
 -- a call has begun when it gives out its first action
 abbrev pub GivesAction : {A : Type 0} → Given A → Type 0
@@ -14,7 +14,12 @@ GivesAction (ended a) = ⊥
 GivesAction (failed e) = ⊥
 GivesAction (refused e) = ⊥
 
--- how a step has ended the call: document 01's number and values; with an action or a refusal the call goes on
+-- 0 unless an action is given
+abbrev pub bill_of : {A : Type 0} → Given A → (bound : ℕ) → ℕ
+bill_of (act shown) bound = bound
+bill_of _ bound = 0
+
+-- how a step has ended the call: the number and the values; with an action or a refusal the call goes on
 abbrev pub ending_as : {S A : Type 0} → (A → List ℕ) → Given (Left S A) → Ending
 ending_as values (act shown) = goes
 ending_as values (ended left) = ends_with 0 (values left.answer)
@@ -43,7 +48,7 @@ module _ {F C S A : Type 0} (driver : Driver F C S A) where
     pub asks : (ls : List Lent) → length ls ≡ length replies → Lending (takes_at driver call l) l.given ls →
         delay_asked (run_at driver flash call l (answering replies ls)) ≡ b
 
-  -- replies on which the call ends well: "0 is success"
+  -- replies on which the call ends well, with 0
   pub record EndsWell (flash : F) (call : C) (l : Lent) : Type 0 where
     pub values : List ℕ
     pub replies : List Answer
@@ -51,13 +56,23 @@ module _ {F C S A : Type 0} (driver : Driver F C S A) where
     pub ends : (ls : List Lent) → length ls ≡ length replies → Lending (takes_at driver call l) l.given ls →
         EndsAs driver.values (ends_with 0 values) (run_at driver flash call l (answering replies ls))
 
+  -- what the call may ask: nothing, where it is turned away or ends without an action
+  abbrev pub bill_at : F → C → Lent → ℕ
+  bill_at flash call l = bill_of (driver.system.begin flash call l).given (bound_at driver flash call l)
+
   pub record WithinBound : Type 0 where
-    -- "the delay summed over the actions given out is at most the call's bill in the documents"
+    -- a run asks no more than the bound of its call, on any state
     pub bounded : (flash : F) (call : C) (l : Lent) (es : List (Event C)) → delay_asked (run_at driver flash call l es) ≤ bound_at driver flash call l
-    -- "and for each call some replies reach its bill"
+    -- nor do the steps of a call on a driver at rest ask more than its bill
+    pub billed : (flash : F) (call : C) (l : Lent) (es : List (Event C)) → driver.system.running flash ≡ false →
+        delay_asked (steps_at driver flash call l es) ≤ bill_at flash call l
+    -- so that one without a run asks nothing
+    pub without_run : (flash : F) (call : C) (l : Lent) (es : List (Event C)) → driver.system.running flash ≡ false → (Begun flash call l → ⊥) →
+        delay_asked (steps_at driver flash call l es) ≡ 0
+    -- for each call that has begun some replies bring it to its bound
     pub reached : (flash : F) (call : C) (l : Lent) → AllBytes l.given → Begun flash call l → ComesTo flash call l (bound_at driver flash call l)
-    -- "comes to an end": on every list of fitting replies as long as the bound on its actions
+    -- it comes to an end on every list of fitting replies that is as long as its number of actions
     pub ends : (flash : F) (call : C) (l : Lent) (es : List (Event C)) → Begun flash call l →
-        Fitting (run_at driver flash call l es) → actions_at driver flash call l ≤ length es → HasEnded (run_at driver flash call l es)
+        Fitting (run_at driver flash call l es) → most_actions_at driver flash call l ≤ length es → HasEnded (run_at driver flash call l es)
     -- every begun call ends well on some replies, but those that cannot
     pub ends_well : (flash : F) (call : C) (l : Lent) → AllBytes l.given → Begun flash call l → ends_at driver flash call l ≡ true → EndsWell flash call l

@@ -19,7 +19,7 @@ use Rattle.spi_nand.specs.declared.call.Call.{Call}
 use Rattle.spi_nand.specs.declared.setup.Setup.{Setup}
 use Rattle.nand_runs.specs.Rust.{wait-ready, read-cache, is-bad-block, mark-bad-block}
 use Rattle.nand_runs.specs.Program.{page_taken, rust_program, program_of}
-use Rattle.nand_runs.specs.Bound.{construction_bound, mark_bound, delay_bound, weight_of, wait_actions, action_bound}
+use Rattle.nand_runs.specs.Bound.{construction_bound, mark_bound, delay_bound, weight_of, wait_actions, most_actions}
 use Rattle.nand_runs.proofs.Pages.{no-marker}
 use Rattle.nand_runs.proofs.Waits.{wait-delays, wait-actions}
 use Rattle.nand_runs.proofs.Weights.{bounded-with-config, bounded-refused-page, bounded-is-bad, bounded-mark, weighed}
@@ -92,5 +92,5 @@ bounded flash h (Call.MarkBadBlock block) b d = ended _ (omega arith) (bounded-m
 
 -- ---- the actions
 
-pub acts : (flash : Setup) → in_bounds flash.geometry ≡ true → (call : Call) (b d : ℕ) → Bounded actions (action_bound flash call b) (program_of flash call b d)
+pub acts : (flash : Setup) → in_bounds flash.geometry ≡ true → (call : Call) (b d : ℕ) → Bounded actions (most_actions flash call b) (program_of flash call b d)
 acts = weighed (actions-weigh wait-ready wait_actions wait-actions)

@@ -11,7 +11,7 @@ use Rattle.flash_runs.proofs.Supplies.{Asks, Bounds, Supplies, Known}
 use Rattle.spi_nand.specs.declared.call.Call.{Call}
 use Rattle.spi_nand.specs.declared.phase.Phase.{Phase}
 use Rattle.spi_nand.specs.declared.setup.Setup.{Setup}
-use Rattle.nand_runs.specs.Bound.{delay_bound, weight_of, action_bound}
+use Rattle.nand_runs.specs.Bound.{delay_bound, weight_of, most_actions}
 use Rattle.nand_runs.specs.Program.{Left, rust_program, program_of}
 use Rattle.nand_runs.specs.ProgramBounds.{Begins, can_end}
 use Rattle.nand_runs.proofs.Begins.{begins}
@@ -29,7 +29,7 @@ use Rattle.nand_runs.proofs.Lent.{lent}
 
 pub record SameWork (s : Setup) (c : Call) (b d : ℕ) : Type 0 where
   pub bound : delay_bound (works_on (sort_of c b d) s) c b ≡ delay_bound s c b
-  pub acts : action_bound (works_on (sort_of c b d) s) c b ≡ action_bound s c b
+  pub acts : most_actions (works_on (sort_of c b d) s) c b ≡ most_actions s c b
   pub program : program_of (works_on (sort_of c b d) s) c b d ≡ program_of s c b d
   pub ends : can_end (works_on (sort_of c b d) s) c ≡ can_end s c
 
@@ -75,11 +75,11 @@ module _ (s : Setup) (c : Call) (b : ℕ) where
       subst (λ n. Bounded delays n (program_of s c b d)) same.bound
       (subst (Bounded delays (delay_bound (works_on (sort_of c b d) s) c b)) same.program (program-bounds.bounded (works_on (sort_of c b d) s) h c b d))
 
-  acts : (d : ℕ) → Within d → Bounded actions (action_bound s c b) (program_of s c b d)
+  acts : (d : ℕ) → Within d → Bounded actions (most_actions s c b) (program_of s c b d)
   acts d h =
       let same = same-work s c b d in
       subst (λ n. Bounded actions n (program_of s c b d)) same.acts
-      (subst (Bounded actions (action_bound (works_on (sort_of c b d) s) c b)) same.program (program-bounds.acts (works_on (sort_of c b d) s) h c b d))
+      (subst (Bounded actions (most_actions (works_on (sort_of c b d) s) c b)) same.program (program-bounds.acts (works_on (sort_of c b d) s) h c b d))
 
   module _ (given : List ℕ) (h : Within (length given)) (small : AllBytes given) (asks : Asks (program_of s c b (length given))) where
     abbrev held : Setup

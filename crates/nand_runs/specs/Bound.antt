@@ -138,5 +138,6 @@ module _ (x : Figures Operation) where
 abbrev pub wait_actions : Operation → ℕ
 wait_actions operation = 1 + 5 * looks_of operation
 
-abbrev pub action_bound : Setup → Call → ℕ → ℕ
-action_bound = weight_of (action_figures wait_actions)
+-- no call gives out more; not every call gives out so many
+abbrev pub most_actions : Setup → Call → ℕ → ℕ
+most_actions = weight_of (action_figures wait_actions)

@@ -7,7 +7,7 @@ use Rattle.spi_nand.specs.Config.{in_bounds, page_count_of}
 use Rattle.spi_nand.specs.Transfer.{in_cache, in_range}
 use Rattle.spi_nand.specs.declared.call.Call.{Call}
 use Rattle.spi_nand.specs.declared.setup.Setup.{Setup}
-use Rattle.nand_runs.specs.Bound.{delay_bound, action_bound}
+use Rattle.nand_runs.specs.Bound.{delay_bound, most_actions}
 use Rattle.nand_runs.specs.Program.{Left, page_taken, program_of}
 
 -- a page, and a block, of the device
@@ -91,7 +91,7 @@ pub record ProgramBounds : Type 0 where
       Begins flash call b (length given) → Reaches given delays (delay_bound flash call b) (program_of flash call b (length given))
   -- no path gives out more actions
   pub acts : (flash : Setup) → in_bounds flash.geometry ≡ true → (call : Call) (b d : ℕ) →
-      Bounded actions (action_bound flash call b) (program_of flash call b d)
+      Bounded actions (most_actions flash call b) (program_of flash call b d)
   -- some path ends well
   pub ends_well : (flash : Setup) → in_bounds flash.geometry ≡ true → (call : Call) (b : ℕ) (given : List ℕ) → AllBytes given →
       Begins flash call b (length given) → can_end flash call ≡ true → (n : ℕ) × (left : Left) × Ends given delays n left (program_of flash call b (length given))

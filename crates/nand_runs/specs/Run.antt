@@ -13,7 +13,7 @@ use Rattle.nand_driver.specs.Call.{fresh_setup, not_built, nand_calls, begin_of}
 use Rattle.nand_driver.specs.Settle.{nand_shape}
 use Rattle.nand_driver.specs.Step.{step_of, delivered_part}
 use Rattle.nand_driver.specs.Settle.{SpiNandFlash}
-use Rattle.nand_runs.specs.Bound.{delay_bound, action_bound}
+use Rattle.nand_runs.specs.Bound.{delay_bound, most_actions}
 use Rattle.nand_runs.specs.Observer.{reads_cache}
 use Rattle.nand_runs.specs.Program.{Left, program_of}
 use Rattle.nand_runs.specs.ProgramBounds.{can_end}
@@ -66,7 +66,7 @@ nand_driver =
       in_bounds = nand_calls.in_bounds;
       program = program_of;
       delay_bound = λ setup call b d. delay_bound setup call b;
-      action_bound = λ setup call b d. action_bound setup call b;
+      most_actions = λ setup call b d. most_actions setup call b;
       can_end = λ setup call b d. can_end setup call;
       values = answer_values;
       reads = reads_cache;

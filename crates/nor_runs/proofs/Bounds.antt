@@ -16,7 +16,7 @@ use Rattle.spi_nor.specs.Transfer.{erase_operation}
 use Rattle.spi_nor.specs.WaitTable.{largest_of}
 use Rattle.nor_runs.specs.Program.{program_of}
 use Rattle.nor_runs.specs.Run.{nor_driver}
-use Rattle.nor_runs.specs.Bound.{page_taken, quad_bound, unit_bound, delay_bound, quad_weight, weight_of, wait_actions, action_bound}
+use Rattle.nor_runs.specs.Bound.{page_taken, quad_bound, unit_bound, delay_bound, quad_weight, weight_of, wait_actions, most_actions}
 use Rattle.spi_nor.specs.declared.phase.EraseKind.{EraseKind}
 use Rattle.spi_nor.specs.declared.call.Call.{Call}
 use Rattle.spi_nor.specs.declared.setup.Setup.{Setup}
@@ -70,5 +70,5 @@ bounded flash (Call.EraseBlock offset) b d h = within flash (Call.EraseBlock off
 
 -- ---- the actions
 
-pub acts : (flash : Setup) (call : Call) (b d : ℕ) → Bounds nor_driver flash call b d → Bounded actions (action_bound flash call b d) (program_of flash call b d)
+pub acts : (flash : Setup) (call : Call) (b d : ℕ) → Bounds nor_driver flash call b d → Bounded actions (most_actions flash call b d) (program_of flash call b d)
 acts flash call b d h = rw (same flash call b d h) (weighed (actions-weigh wait-ready wait_actions wait-actions) flash call b d h)

@@ -14,7 +14,7 @@ use Rattle.nor_driver.specs.Step.{step_of, delivered_part}
 use Rattle.nor_driver.specs.Call.{fresh_setup, not_built, nor_calls, begin_of}
 use Rattle.nor_driver.specs.Settle.{nor_shape}
 use Rattle.nor_runs.specs.Program.{Left, program_of}
-use Rattle.nor_runs.specs.Bound.{page_taken, delay_bound, action_bound}
+use Rattle.nor_runs.specs.Bound.{page_taken, delay_bound, most_actions}
 use Rattle.spi_nor.specs.declared.call.Call.{Call}
 use Rattle.nor_driver.specs.Settle.{SpiNorFlash}
 
@@ -65,7 +65,7 @@ nor_driver = record {
   in_bounds = nor_calls.in_bounds;
   program = program_of;
   delay_bound = λ flash call b d. delay_bound flash call d;
-  action_bound = action_bound;
+  most_actions = most_actions;
   can_end = λ flash call b d. can_end (sort_of call b d);
   values = answer_values;
   reads = λ command. true;
