@@ -1,4 +1,4 @@
-// The number of each error, and its kind.
+//! The number of each error, and its kind.
 use crate::line;
 use spi_flash::error::{FlashError, NorFlashErrorKind};
 use std::io;

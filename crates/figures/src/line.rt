@@ -1,4 +1,4 @@
-// A line: a name, its values with a blank before each, and its end.
+//! A line: a name, its values with a blank before each, and its end.
 use spi_flash::wait::Timings;
 use std::io;
 
@@ -24,6 +24,15 @@ pub(crate) fn size(rt: &impl Print, n: usize) -> io::Result<()> {
 
 pub(crate) fn answer(rt: &impl Print, yes: bool) -> io::Result<()> {
     if yes { word(rt, "yes") } else { word(rt, "no") }
+}
+
+// Whether an optional setting is there.
+pub(crate) fn setting(rt: &impl Print, given: bool) -> io::Result<()> {
+    if given {
+        word(rt, "some")
+    } else {
+        word(rt, "none")
+    }
 }
 
 pub(crate) fn end(rt: &impl Print) -> io::Result<()> {

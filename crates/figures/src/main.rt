@@ -1,4 +1,4 @@
-// Prints figures of both drivers' tables, one line each: a name, then its values. Ids are hexadecimal, other numbers decimal.
+//! Prints figures of both drivers' tables, one line each: a name, then its values. Ids and opcodes are hexadecimal, other numbers decimal.
 #![tactic(auto)]
 
 mod errors;
@@ -13,9 +13,11 @@ fn main(rt: HostRuntime) -> io::Result<()> {
     nand::sizes(&rt)?;
     nand::waits(&rt)?;
     nand::bounds(&rt)?;
+    nand::settings(&rt)?;
     nor::ids(&rt)?;
     nor::codes(&rt)?;
     nor::waits(&rt)?;
     nor::bounds(&rt)?;
+    nor::settings(&rt)?;
     errors::all(&rt)
 }

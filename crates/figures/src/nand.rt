@@ -1,6 +1,6 @@
-// The NAND's ids, geometries and waits. Each part prints its own types, and what both print is in `line`.
+//! The NAND's ids, geometries, waits and default settings. Each part prints its own types, and what both print is in `line`.
 use crate::line;
-use spi_nand::config::{NandGeometry, NandJedecId};
+use spi_nand::config::{NandGeometry, NandJedecId, NandQuadConfig, SpiNandConfig};
 use spi_nand::opcode;
 use spi_nand::opcode::Operation;
 use std::io;
@@ -97,5 +97,27 @@ fn bound(rt: &impl Print, g: NandGeometry) -> io::Result<()> {
     line::name(rt, "nand_in_bounds")?;
     geometry(rt, g)?;
     line::answer(rt, g.in_bounds())?;
+    line::end(rt)
+}
+
+// What the Rust's `default` functions give.
+pub(crate) fn settings(rt: &impl Print) -> io::Result<()> {
+    config(rt, SpiNandConfig::default())?;
+    quad(rt, NandQuadConfig::default())
+}
+
+fn config(rt: &impl Print, c: SpiNandConfig) -> io::Result<()> {
+    line::name(rt, "nand_default")?;
+    line::setting(rt, c.quad.is_some())?;
+    line::setting(rt, c.geometry.is_some())?;
+    line::end(rt)
+}
+
+fn quad(rt: &impl Print, q: NandQuadConfig) -> io::Result<()> {
+    line::name(rt, "nand_default_quad")?;
+    line::decimal(rt, u64::from(q.tclqv_ns))?;
+    line::byte(rt, q.read_cache_opcode)?;
+    line::byte(rt, q.load_program_opcode)?;
+    line::decimal(rt, u64::from(q.dummy_margin))?;
     line::end(rt)
 }

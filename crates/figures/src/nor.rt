@@ -1,6 +1,6 @@
-// The NOR's ids, capacity codes, geometries and waits. Each part prints its own types, and what both print is in `line`.
+//! The NOR's ids, capacity codes, geometries, waits and default settings. Each part prints its own types, and what both print is in `line`.
 use crate::line;
-use spi_nor::config::{NorDeviceInfo, NorJedecId};
+use spi_nor::config::{NOR_READ_SIZE, NorDeviceInfo, NorJedecId, NorQuadConfig, SpiNorConfig};
 use spi_nor::opcode;
 use spi_nor::opcode::Operation;
 use std::io;
@@ -110,5 +110,30 @@ fn bound(rt: &impl Print, d: NorDeviceInfo) -> io::Result<()> {
     line::name(rt, "nor_in_bounds")?;
     device(rt, d)?;
     line::answer(rt, d.in_bounds())?;
+    line::end(rt)
+}
+
+// The least read, then what the Rust's `default` functions give.
+pub(crate) fn settings(rt: &impl Print) -> io::Result<()> {
+    line::name(rt, "nor_read_size")?;
+    line::size(rt, NOR_READ_SIZE)?;
+    line::end(rt)?;
+    config(rt, SpiNorConfig::default())?;
+    quad(rt, NorQuadConfig::default())
+}
+
+fn config(rt: &impl Print, c: SpiNorConfig) -> io::Result<()> {
+    line::name(rt, "nor_default")?;
+    line::setting(rt, c.quad.is_some())?;
+    line::setting(rt, c.device.is_some())?;
+    line::end(rt)
+}
+
+fn quad(rt: &impl Print, q: NorQuadConfig) -> io::Result<()> {
+    line::name(rt, "nor_default_quad")?;
+    line::decimal(rt, u64::from(q.tclqv_ns))?;
+    line::byte(rt, q.read_opcode)?;
+    line::byte(rt, q.page_program_opcode)?;
+    line::decimal(rt, u64::from(q.dummy_margin))?;
     line::end(rt)
 }

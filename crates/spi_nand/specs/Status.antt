@@ -1,6 +1,6 @@
 -- The feature registers C0, B0 and A0 (nand/status.rs; docs/SPECIFICATION.md, "Registers"), in the Rust's masks.
 -- `bit_and` and `bit_or` are what the language's `&` and `|` compute.
-use Rattle.std.specs.Prelude.{ℕ, ◌*◌, ◌/◌, ◌%◌, ◌^◌, Bool, eqb}
+use Rattle.std.specs.Prelude.{ℕ, ◌*◌, ◌/◌, ◌%◌, ◌^◌, Bool, List, codes, eqb}
 use Rattle.std.specs.Int.Bits.{bit_and, bit_or}
 use Rattle.qspi.specs.Choice.{pick}
 use Rattle.spi_flash.specs.Bits.{any_of, bit_not}
@@ -65,6 +65,13 @@ verdict_at n =
 
 unfoldable pub verdict_of : Status → EccVerdict
 verdict_of s = verdict_at (bit_and s.0 ECC-MASK / 2 ^ 4)
+
+-- EccVerdict::label, in character codes
+abbrev pub label_of : EccVerdict → List ℕ
+label_of EccVerdict.NoBitFlips = codes "no bit flips"
+label_of EccVerdict.Corrected = codes "corrected"
+label_of EccVerdict.Uncorrectable = codes "uncorrectable"
+label_of EccVerdict.Reserved = codes "reserved"
 
 -- ---- the configuration register, B0
 

@@ -1,4 +1,4 @@
-// Geometry and settings of a SPI NAND (nand/config.rs).
+//! Geometry and settings of a SPI NAND (nand/config.rs).
 ghost use Rattle.std.specs.Prelude.{◌≡◌, ◌*◌};
 ghost use Rattle.spi_nand.specs.Config.{jedec_id_of, block_size_of, page_count_of, capacity_of, cache_size_of, first_page_of, in_bounds, from_jedec, QUAD-W25N01GV, single_config, quad_config};
 
@@ -6,15 +6,15 @@ use crate::opcode;
 use crate::status::{Configuration, Protection};
 use spi_flash::rows;
 
-// What READ ID answers.
-#[derive(Clone, Copy, PartialEq, Eq)]
+/// What READ ID answers.
+#[derive(Clone, Copy, Debug, PartialEq, Eq)]
 pub struct NandJedecId {
     pub manufacturer: u8,
     pub device: u16,
 }
 
 impl NandJedecId {
-    // The Rust's name, in place of a From.
+    /// The id in the three bytes. (The Rust's name, in place of a From.)
     #[tactic(auto, unfolding(crate::specs::Config::jedec_id_of))]
     pub fn from_bytes(bytes: [u8; 3]) -> Self
         ensures { result ≡ jedec_id_of bytes }
@@ -26,11 +26,12 @@ impl NandJedecId {
     }
 }
 
-#[derive(Clone, Copy)]
+/// The sizes of a SPI NAND.
+#[derive(Clone, Copy, Debug, PartialEq, Eq)]
 pub struct NandGeometry {
-    // Main bytes of a page.
+    /// Main bytes of a page.
     pub page_size: usize,
-    // Spare bytes of a page.
+    /// Spare bytes of a page.
     pub oob_size: usize,
     pub pages_per_block: usize,
     pub block_count: usize,
@@ -88,7 +89,7 @@ impl NandGeometry {
         block_count: 2048,
     };
 
-    // Bytes of an erase block.
+    /// Bytes of an erase block.
     #[tactic(auto, unfolding(crate::specs::Config::block_size_of))]
     pub fn block_size(self) -> usize
         ensures { result ≡ block_size_of self }
@@ -96,6 +97,7 @@ impl NandGeometry {
         self.page_size.saturating_mul(self.pages_per_block)
     }
 
+    /// Pages of the whole device.
     #[tactic(auto, unfolding(crate::specs::Config::page_count_of))]
     pub fn page_count(self) -> usize
         ensures { result ≡ page_count_of self }
@@ -103,7 +105,7 @@ impl NandGeometry {
         self.pages_per_block.saturating_mul(self.block_count)
     }
 
-    // Main bytes of the whole device.
+    /// Main bytes of the whole device.
     #[tactic(auto, using(crate::proofs::Saturating::twice), unfolding(crate::specs::Config::capacity_of, crate::specs::Config::block_size_of))]
     pub fn capacity(self) -> usize
         ensures { result ≡ capacity_of self }
@@ -111,7 +113,7 @@ impl NandGeometry {
         self.block_size().saturating_mul(self.block_count)
     }
 
-    // Bytes of the cache: a page and its spare bytes.
+    /// Bytes of the cache: a page and its spare bytes.
     #[tactic(auto, unfolding(crate::specs::Config::cache_size_of))]
     pub fn cache_size(self) -> usize
         ensures { result ≡ cache_size_of self }
@@ -119,7 +121,7 @@ impl NandGeometry {
         self.page_size.saturating_add(self.oob_size)
     }
 
-    // The first page of a block.
+    /// The first page of a block.
     #[tactic(auto, unfolding(crate::specs::Config::first_page_of))]
     pub fn first_page(self, block: usize) -> usize
         ensures { result ≡ first_page_of self block }
@@ -127,7 +129,7 @@ impl NandGeometry {
         block.saturating_mul(self.pages_per_block)
     }
 
-    // Whether the driver takes this geometry from a caller.
+    /// Whether the driver takes this geometry from a caller.
     #[tactic(auto, using(crate::proofs::Saturating::below), unfolding(crate::specs::Config::in_bounds, crate::specs::Config::page_count_of, crate::specs::Config::cache_size_of))]
     pub fn in_bounds(self) -> bool
         ensures { result ≡ in_bounds self }
@@ -139,7 +141,7 @@ impl NandGeometry {
             && self.page_count() <= MAX_PAGE_COUNT
     }
 
-    // The geometry of a known id, else that of a W25N01GV.
+    /// The geometry of a known id, else that of a W25N01GV.
     #[tactic(auto, unfolding(crate::specs::Config::from_jedec))]
     pub fn from_jedec(id: NandJedecId) -> Self
         ensures { result ≡ from_jedec id }
@@ -148,18 +150,19 @@ impl NandGeometry {
     }
 }
 
-// Four-line transfers of the cache.
-#[derive(Clone, Copy)]
+/// Four-line transfers of the cache.
+#[derive(Clone, Copy, Debug, PartialEq, Eq)]
 pub struct NandQuadConfig {
-    // From the clock to valid output, in nanoseconds.
+    /// From the clock to valid output, in nanoseconds.
     pub tclqv_ns: u32,
     pub read_cache_opcode: u8,
     pub load_program_opcode: u8,
-    // Dummy bytes on top of the computed count.
+    /// Dummy bytes on top of the computed count.
     pub dummy_margin: u8,
 }
 
 impl NandQuadConfig {
+    /// The Rust's numbers, also the default.
     pub const W25N01GV: Self = Self {
         tclqv_ns: 10,
         read_cache_opcode: opcode::QUAD_READ_CACHE,
@@ -176,16 +179,18 @@ impl Default for NandQuadConfig {
     }
 }
 
-#[derive(Clone, Copy, Default)]
+/// How the driver works, and on which part; the default is one data line, and the part found by its id.
+#[derive(Clone, Copy, Debug, PartialEq, Eq, Default)]
 pub struct SpiNandConfig {
-    // None for one data line.
+    /// None for one data line.
     pub quad: Option<NandQuadConfig>,
-    // None to go by the id that the part answers.
+    /// None to go by the id that the part answers.
     pub geometry: Option<NandGeometry>,
 }
 
 // The Rust's, as the NOR's are: one config over the types of the fields would lose the names of the fields.
 impl SpiNandConfig {
+    /// One data line, and the part found by its id.
     pub fn single() -> Self
         ensures { result ≡ single_config }
     {
@@ -195,6 +200,7 @@ impl SpiNandConfig {
         }
     }
 
+    /// Four data lines, and the part found by its id.
     pub fn quad(quad: NandQuadConfig) -> Self
         ensures { result ≡ quad_config quad }
     {
@@ -205,8 +211,8 @@ impl SpiNandConfig {
     }
 }
 
-// The id and the registers as a construction found and left them.
-#[derive(Clone, Copy)]
+/// The id and the registers as a construction found and left them.
+#[derive(Clone, Copy, Debug, PartialEq, Eq)]
 pub struct NandInit {
     pub id: NandJedecId,
     pub configuration_before: Configuration,
@@ -215,7 +221,7 @@ pub struct NandInit {
 }
 
 impl NandInit {
-    // The Rust's zeros, in place of a None.
+    /// What is not known yet: the Rust's zeros, in place of a None.
     pub const UNKNOWN: Self = Self {
         id: NandJedecId {
             manufacturer: 0,

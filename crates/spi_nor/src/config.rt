@@ -1,36 +1,37 @@
-// Device parameters and quad configuration (nor/config.rs).
+//! Device parameters and quad configuration (nor/config.rs).
 ghost use Rattle.std.specs.Prelude.{◌≡◌};
 ghost use Rattle.spi_nor.specs.Config.{capacity_bytes_of, from_jedec, in_bounds_of, quad_w25q128jv, single_config, quad_config};
 
 use crate::opcode;
 use spi_flash::rows;
 
-// Program page size in bytes.
+/// Program page size in bytes.
 pub const NOR_PAGE_SIZE: usize = 256;
-// Erase sector size in bytes.
+/// Erase sector size in bytes.
 pub const NOR_SECTOR_SIZE: usize = 4096;
-// 64 KiB erase block size in bytes.
+/// 64 KiB erase block size in bytes.
 pub const NOR_BLOCK_SIZE_64K: usize = 65536;
-// Least read unit in bytes.
+/// Least read unit in bytes.
 pub const NOR_READ_SIZE: usize = 1;
 
-// Added: the bounds of a caller's own geometry. A capacity and a block end where three address bytes do.
+/// Added: the bounds of a caller's own geometry. A capacity and a block end where three address bytes do.
 pub const MAX_CAPACITY: usize = 16_777_216;
-
+/// Added: the largest page of a caller's own geometry.
 pub const MAX_PAGE_SIZE: usize = 65_536;
 
-// What READ ID (9F) answers.
-#[derive(Clone, Copy, PartialEq, Eq)]
+/// What READ ID (9F) answers.
+#[derive(Clone, Copy, Debug, PartialEq, Eq)]
 pub struct NorJedecId {
-    // EF for Winbond.
+    /// EF for Winbond.
     pub manufacturer: u8,
-    // 40 for Winbond W25QJV.
+    /// 40 for Winbond W25QJV.
     pub memory_type: u8,
-    // The capacity code: 2 to this power bytes.
+    /// The capacity code: 2 to this power bytes.
     pub capacity: u8,
 }
 
 impl NorJedecId {
+    /// The bytes that the capacity code stands for.
     #[tactic(auto, unfolding(crate::specs::Config::capacity_bytes_of))]
     pub fn capacity_bytes(self) -> Option<usize>
         ensures { result ≡ capacity_bytes_of self }
@@ -44,7 +45,8 @@ impl NorJedecId {
     }
 }
 
-#[derive(Clone, Copy)]
+/// The sizes of a SPI NOR.
+#[derive(Clone, Copy, Debug, PartialEq, Eq)]
 pub struct NorDeviceInfo {
     pub capacity: usize,
     pub sector_size: usize,
@@ -80,7 +82,7 @@ const KNOWN_NOR_DEVICES: [(NorJedecId, NorDeviceInfo); 3] = [
 ];
 
 impl NorDeviceInfo {
-    // 8 MiB, three address bytes.
+    /// 8 MiB, three address bytes.
     pub const W25Q64JV: Self = Self {
         capacity: 8 * 1024 * 1024,
         sector_size: NOR_SECTOR_SIZE,
@@ -88,7 +90,7 @@ impl NorDeviceInfo {
         page_size: NOR_PAGE_SIZE,
     };
 
-    // 16 MiB, three address bytes.
+    /// 16 MiB, three address bytes.
     pub const W25Q128JV: Self = Self {
         capacity: 16 * 1024 * 1024,
         sector_size: NOR_SECTOR_SIZE,
@@ -96,7 +98,7 @@ impl NorDeviceInfo {
         page_size: NOR_PAGE_SIZE,
     };
 
-    // The geometry that an id stands for, or else W25Q128JV.
+    /// The geometry that an id stands for, or else W25Q128JV.
     #[tactic(auto, unfolding(crate::specs::Config::from_jedec))]
     pub fn from_jedec(id: NorJedecId) -> Self
         ensures { result ≡ from_jedec id }
@@ -113,7 +115,7 @@ impl NorDeviceInfo {
         rows::known(&KNOWN_NOR_DEVICES, id).unwrap_or(unknown)
     }
 
-    // Added: whether a caller's own geometry is one that the driver takes.
+    /// Added: whether a caller's own geometry is one that the driver takes.
     #[tactic(auto, unfolding(crate::specs::Config::in_bounds_of))]
     pub fn in_bounds(self) -> bool
         ensures { result ≡ in_bounds_of self }
@@ -128,20 +130,21 @@ impl NorDeviceInfo {
     }
 }
 
-// Quad data-phase parameters.
-#[derive(Clone, Copy)]
+/// Quad data-phase parameters.
+#[derive(Clone, Copy, Debug, PartialEq, Eq)]
 pub struct NorQuadConfig {
-    // Clock-to-output valid time in nanoseconds.
+    /// Clock-to-output valid time in nanoseconds.
     pub tclqv_ns: u32,
-    // Quad-output fast read (6B by default).
+    /// Quad-output fast read (6B by default).
     pub read_opcode: u8,
-    // Quad-input page program (32 by default).
+    /// Quad-input page program (32 by default).
     pub page_program_opcode: u8,
-    // Dummy bytes beyond the computed count.
+    /// Dummy bytes beyond the computed count.
     pub dummy_margin: u8,
 }
 
 impl NorQuadConfig {
+    /// The Rust's numbers, also the default.
     pub const W25Q128JV: Self = Self {
         tclqv_ns: 8,
         read_opcode: opcode::QUAD_READ,
@@ -158,16 +161,18 @@ impl Default for NorQuadConfig {
     }
 }
 
-#[derive(Clone, Copy, Default)]
+/// How the driver works, and on which part; the default is one data line, and the part found by its id.
+#[derive(Clone, Copy, Debug, PartialEq, Eq, Default)]
 pub struct SpiNorConfig {
-    // None for single-line transfers.
+    /// None for single-line transfers.
     pub quad: Option<NorQuadConfig>,
-    // None to detect it by READ ID.
+    /// None to detect it by READ ID.
     pub device: Option<NorDeviceInfo>,
 }
 
 // The Rust's, as the NAND's are: one config over the types of the fields would lose the names of the fields.
 impl SpiNorConfig {
+    /// One data line, and the part found by its id.
     pub fn single() -> Self
         ensures { result ≡ single_config }
     {
@@ -177,6 +182,7 @@ impl SpiNorConfig {
         }
     }
 
+    /// Four data lines, and the part found by its id.
     pub fn quad(quad: NorQuadConfig) -> Self
         ensures { result ≡ quad_config quad }
     {

@@ -2,7 +2,8 @@
 // Enums and no closures: the host holds this between two replies, by value, and no function may hand a closure out.
 use spi_flash::range::Span;
 
-#[derive(Clone, Copy)]
+/// Which of the two erases.
+#[derive(Clone, Copy, Debug, PartialEq, Eq)]
 pub enum EraseKind {
     Sector,
     Block,
