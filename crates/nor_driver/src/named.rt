@@ -1,11 +1,15 @@
 // The calls under the Rust's names, a line each: what they do alike is `machine::call::begin`. What a call does not take has no length.
-// Functions, as a type of another crate takes no methods.
+// And a step of a call under way, and what a read has delivered. Functions, as a type of another crate takes no methods.
 ghost use Rattle.std.specs.Prelude.{◌≡◌, length};
+ghost use Rattle.qspi.specs.Loan.{SameLoan, lending, returning};
 ghost use Rattle.nor_driver.specs.Call.{begin_of};
+ghost use Rattle.nor_driver.specs.Step.{stepped_to, step_of, delivered_part};
 
 use crate::part::{Nor, SpiNorFlash, Stepped};
 use machine::call::begin;
-use qspi::loan::Lengths;
+use machine::step;
+use qspi::bus::Reply;
+use qspi::loan::{Lengths, Loan};
 use spi_nor::call::Call;
 use spi_nor::config::SpiNorConfig;
 
@@ -151,4 +155,19 @@ pub fn erase_block(flash: SpiNorFlash, offset: u32, scratch: &[u8]) -> Stepped
         Call::EraseBlock { offset },
         Lengths::of_scratch(scratch),
     )
+}
+
+/// Takes the reply to the action that is out, and gives the next action or the call's end.
+pub fn step(flash: SpiNorFlash, reply: Reply, bytes: &[u8], lent: &mut Loan) -> Stepped
+    ensures same { SameLoan lent.old lent.new }
+    ensures stepped { returning (stepped_to result) lent.new ≡ lending (step_of flash reply bytes.now) lent.old }
+{
+    step::step::<Nor>(flash, reply, bytes, lent)
+}
+
+/// The beginning of the caller's buffer that holds the bytes read by the last call begun, as that part of the buffer itself.
+pub fn delivered(flash: SpiNorFlash, buffer: &[u8]) -> &[u8]
+    ensures { result.now ≡ delivered_part flash buffer.now }
+{
+    flash.delivered(buffer)
 }
