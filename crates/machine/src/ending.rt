@@ -5,7 +5,7 @@ ghost use Rattle.machine.specs.Number.{number_of};
 use crate::state::Given;
 
 impl<A> Given<A> {
-    // The number of document 01: 0 is success, and also an action, with which the call goes on. No From, as 0 is said of two things.
+    /// How the call has ended: 0 is success, and also an action, with which the call goes on. No From, as 0 is said of two things.
     pub fn number(&self) -> u32
         ensures { result ≡ number_of self.now }
     {

@@ -1,6 +1,5 @@
--- Document 01, "Readings to check": those marked *, evaluated on the definitions that the contracts cite.
+-- Figures of the parts, each evaluated on the definitions that the contracts cite (docs/SPECIFICATION.md, "Readings").
 use Rattle.std.specs.Prelude.{ℕ, ◌≡◌, Bool, true, false, List, [], ◌∷◌, ◌++◌, map, None}
-use Rattle.std.specs.Int.Bits.{bit_or}
 use Rattle.qspi.specs.Command.{command_bytes}
 use Rattle.spi_flash.specs.WaitLaw.{largest_sum, looks}
 use Rattle.spi_nor.specs.Command.{read_command}
@@ -13,19 +12,19 @@ use Rattle.spi_nor.specs.declared.phase.EraseKind.{EraseKind}
 use Rattle.spi_nor.specs.declared.call.Call.{Call}
 use Rattle.spi_nand.specs.Opcode.{timings_of}
 use Rattle.spi_nand.specs.Command.{page_read_command}
-use Rattle.spi_nand.specs.Status.{status_of, verdict_number, verdict_of, QUAD-ENABLE, BUFFER-READ, ECC-ENABLE, OPERATIONAL, configuration_of, configuration_byte, with_bits, protection_of, is_unlocked}
-use Rattle.spi_nand.specs.Config.{W25N01GV, single_config as single_nand}
+use Rattle.spi_nand.specs.Status.{status_of, verdict_number, verdict_of, configuration_of, configuration_byte, protection_of, is_unlocked}
+use Rattle.spi_nand.specs.Config.{W25N01GV, QUAD-W25N01GV, single_config as single_nand, quad_config, wanted_for}
+use Rattle.spi_nand.specs.declared.config.SpiNandConfig.{SpiNandConfig}
 use Rattle.spi_nand.specs.declared.opcode.Operation.{Operation}
-use Rattle.spi_nand.specs.declared.status.Configuration.{Configuration}
 use Rattle.spi_nand.specs.Transfer.{place_of, page_at, column_at, chunk_of}
 use Rattle.spi_nand.specs.declared.call.Call.{Call as NandCall}
-use Rattle.nand_driver.specs.Answer.{ending_number}
 use Rattle.nand_driver.specs.Call.{fresh_setup as fresh_nand, begin_of}
 use Rattle.nand_driver.specs.Settle.{SpiNandFlash, flash_of}
 use Rattle.spi_nand.specs.declared.answer.Answer.{Answer}
+use Rattle.machine.specs.Number.{number_of}
 use Rattle.machine.specs.declared.state.Given.{Given}
 
--- the numbers that the definitions give, and those of the document
+-- the numbers that the definitions give, and those that are told of the part
 pub record Reading : Type 0 where
   pub found : List ℕ
   pub told : List ℕ
@@ -46,12 +45,9 @@ truth false = 0
 abbrev pub unlocked : ℕ → ℕ
 unlocked byte = truth (is_unlocked (protection_of byte))
 
--- the Rust's ensure_configuration: what is wanted without quad, and with it
-abbrev pub wanted : Configuration → Configuration
-wanted before = with_bits before (bit_or ECC-ENABLE BUFFER-READ) (configuration_byte OPERATIONAL)
-
-abbrev pub wanted_quad : Configuration → Configuration
-wanted_quad before = with_bits (wanted before) QUAD-ENABLE QUAD-ENABLE
+-- what the register has once it is made sure of, where it had this before
+abbrev pub configured : SpiNandConfig → ℕ → ℕ
+configured config before = configuration_byte (wanted_for config (configuration_of before))
 
 -- of a maker that is in no row of KNOWN_NOR_DEVICES
 abbrev pub unknown_nor : ℕ → NorDeviceInfo
@@ -62,31 +58,27 @@ device_numbers d = d.capacity ∷ d.sector_size ∷ d.block_size ∷ d.page_size
 
 -- ---- the list
 
--- "Page 65,535 has address 00 FF FF": behind the opcode
+-- the last page's address, behind the opcode
 abbrev pub page_address : Reading
 page_address = reading (command_bytes (page_read_command 65535)) (0x13 ∷ 0x00 ∷ 0xFF ∷ 0xFF ∷ [])
 
--- "NOR read at 0x123456 sends 03 12 34 56"
+-- a NOR read, its address highest byte first
 abbrev pub nor_read : Reading
 nor_read = reading (command_bytes (read_command 0x123456)) (0x03 ∷ 0x12 ∷ 0x34 ∷ 0x56 ∷ [])
 
--- "Status 00, 10, 20, 30 have verdicts 0, 1, 2, 3"
+-- one status of each verdict
 abbrev pub verdicts : Reading
 verdicts = reading (verdict 0x00 ∷ verdict 0x10 ∷ verdict 0x20 ∷ verdict 0x30 ∷ []) (0 ∷ 1 ∷ 2 ∷ 3 ∷ [])
 
--- "Protection 7C is locked, 04 unlocked"
+-- a protection that locks, and one that does not
 abbrev pub protection : Reading
 protection = reading (unlocked 0x7C ∷ unlocked 0x04 ∷ []) (0 ∷ 1 ∷ [])
 
--- "Configuration 00 becomes 18, with quad 19"
+-- a configuration with no bit set, without quad and with it
 abbrev pub configuration : Reading
-configuration =
-    reading
-    (configuration_byte (wanted (configuration_of 0x00)) ∷ configuration_byte (wanted_quad (configuration_of 0x00)) ∷ [])
-    (0x18 ∷ 0x19 ∷ [])
+configuration = reading (configured single_nand 0x00 ∷ configured (quad_config QUAD-W25N01GV) 0x00 ∷ []) (0x18 ∷ 0x19 ∷ [])
 
--- "W25N01GV read of 2 at 2,047: page 0 column 2,047, then page 1 column 0, one byte each": of the piece behind so many bytes its page,
--- its column and its length
+-- a read of two bytes over the end of a page: of the piece behind so many bytes its page, its column and its length
 abbrev pub piece_behind : ℕ → List ℕ
 piece_behind done =
     page_at W25N01GV (place_of 2047 done) ∷ column_at W25N01GV (place_of 2047 done) ∷ chunk_of W25N01GV 2047 2 done ∷ []
@@ -94,8 +86,8 @@ piece_behind done =
 abbrev pub nand_read : Reading
 nand_read = reading (piece_behind 0 ++ piece_behind 1) (0 ∷ 2047 ∷ 1 ∷ 1 ∷ 0 ∷ 1 ∷ [])
 
--- "Length 0 at 134,217,728 succeeds without actions; length 1 there is 5": on a W25N01GV that is built, what is given at once (0 an
--- action, 1 success, 2 a failure, 3 a refusal) and its number
+-- a read at the end of a W25N01GV that is built, of no byte and of one: what is given at once (0 an action, 1 success, 2 a failure,
+-- 3 a refusal) and its number
 abbrev pub built_nand : SpiNandFlash
 built_nand = flash_of (fresh_nand single_nand) true 0 None
 
@@ -111,19 +103,19 @@ read_at_end n = (begin_of built_nand (NandCall.Read 134217728) 264 n 0).given
 abbrev pub nand_end : Reading
 nand_end =
     reading
-    (kind_given (read_at_end 0) ∷ ending_number (read_at_end 0) ∷ kind_given (read_at_end 1) ∷ ending_number (read_at_end 1) ∷ [])
+    (kind_given (read_at_end 0) ∷ number_of (read_at_end 0) ∷ kind_given (read_at_end 1) ∷ number_of (read_at_end 1) ∷ [])
     (1 ∷ 0 ∷ 3 ∷ 5 ∷ [])
 
--- "Unknown NOR code 0x10 has 65,536 bytes"
+-- the smallest capacity that a code tells
 abbrev pub nor_code : Reading
 nor_code = reading ((unknown_nor 0x10).capacity ∷ []) (65536 ∷ [])
 
--- "code 0x19 gives W25Q128JV"
+-- a code that tells none
 abbrev pub nor_fallback : Reading
 nor_fallback = reading (device_numbers (unknown_nor 0x19)) (device_numbers w25q128jv)
 
--- "NOR erase 0xF000 to 0x21000: sector, block, sector; bill 7,000,000": the kinds of its steps (0 sector, 1 block), where the
--- last one ends, and the bound on its delay
+-- an erase over a whole block and a sector on either side: the kinds of its steps (0 sector, 1 block), where the last one ends, and
+-- the bound on its delay
 abbrev pub kind_number : EraseKind → ℕ
 kind_number EraseKind.Sector = 0
 kind_number EraseKind.Block = 1
@@ -145,12 +137,12 @@ nor_erase =
     ∷ [])
     (0 ∷ 1 ∷ 0 ∷ 0x21000 ∷ 7000000 ∷ [])
 
--- "A program wait makes at most 26,663 looks, asking 400,005"
+-- the looks of a program's wait, and the sum that it asks
 abbrev pub program_wait : Reading
 program_wait =
     reading (looks (timings_of Operation.Program) ∷ largest_sum (timings_of Operation.Program) ∷ []) (26663 ∷ 400005 ∷ [])
 
--- "a page load 40,000 looks"
+-- the looks of a page load's wait
 abbrev pub load_wait : Reading
 load_wait = reading (looks (timings_of Operation.PageRead) ∷ []) (40000 ∷ [])
 
@@ -170,6 +162,6 @@ readings =
     ∷ load_wait
     ∷ []
 
--- each is as the document tells
+-- each is as told
 pub record ReadingsHold : Type 0 where
   pub all : map (λ r. r.found) readings ≡ map (λ r. r.told) readings

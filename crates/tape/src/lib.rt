@@ -2,7 +2,24 @@
 // records, select and delay by "done".
 #![tactic(auto)]
 
+ghost use Rattle.tape.specs.Statements.{TapeJudged, Example, ReaderWalks};
+
 pub mod judge;
 pub mod reader;
 pub mod record;
 pub mod replay;
+
+/// A tape is accepted just where it is made of a pointer, records and a trailer.
+pub fn tape_judged()
+    ensures { TapeJudged }
+{}
+
+/// A tape of fourteen bytes, and the two records that it is made of.
+pub fn example()
+    ensures { Example }
+{}
+
+/// A reader gives the tape's records one by one, and gives no more only where it stands at the trailer.
+pub fn reader_walks()
+    ensures { ReaderWalks }
+{}

@@ -4,3 +4,4 @@ pub mod Exactly
 pub mod Hearing
 pub mod Following
 pub mod Shams
+pub mod EveryPart
