@@ -1,6 +1,7 @@
 -- A NOR read delivers what the chip holds, and a write has read back what was lent.
 use Prim.Native.Nat.{ℕ}
 use mathlib.Core.Bool.{Bool, true, false}
+use native.Mathlib.Omega.{arith}
 use mathlib.Core.Path.{◌≡◌, refl, ap, sym, ◌∙◌, subst}
 use mathlib.Core.List.{List, [], ◌∷◌}
 use lib.ListN.{length}
@@ -67,10 +68,13 @@ module _ (flash : SpiNorFlash) (offset : ℕ) (l : Lent) (es : List (Event Call)
     first = (unseen, got mine [])
 
     abbrev Fine : Sights → Type 0
-    Fine = Q quad (SeenRead.InOrder offset)
+    Fine = Q quad (SeenRead.InOrder offset len)
 
     abbrev Full : Sights → Type 0
     Full = SeenRead.Whole len
+
+    unasked : Fine first
+    unasked = (tt, tt, omega arith, refl)
 
     shows : bounded_at nor_driver flash c l ≡ true → Shows (watcher quad) Fine (λ a y. Full y) first (program_at nor_driver flash.setup c l)
     unfolding coded
@@ -82,12 +86,12 @@ module _ (flash : SpiNorFlash) (offset : ℕ) (l : Lent) (es : List (Event Call)
     in_run : Fine (each quad (run_at nor_driver flash c l es) mine) × (Succeeded (run_at nor_driver flash c l es) → Full (each quad (run_at nor_driver flash c l es) mine))
     in_run =
         let xs = run_at nor_driver flash c l es in
-        subst (λ z. Fine z × (Succeeded xs → Full z)) (seen quad xs mine) (run-sees known flash c l es (watcher quad) Fine Full first (tt, refl) shows)
+        subst (λ z. Fine z × (Succeeded xs → Full z)) (seen quad xs mine) (run-sees known flash c l es (watcher quad) Fine Full first unasked shows)
 
     at_end : Succeeded (steps_at nor_driver flash c l es) → Fine (each quad (steps_at nor_driver flash c l es) mine) × Full (each quad (steps_at nor_driver flash c l es) mine)
     at_end e =
         let xs = steps_at nor_driver flash c l es in
-        subst (λ z. Fine z × Full z) (seen quad xs mine) (steps-see known flash c l es (watcher quad) Fine Full first (tt, refl) shows (Takes.Buffer len) refl e)
+        subst (λ z. Fine z × Full z) (seen quad xs mine) (steps-see known flash c l es (watcher quad) Fine Full first unasked shows (Takes.Buffer len) refl e)
 
   abbrev its_run : List (Entry Call (Left Setup Answer))
   its_run = run nor_driver flash c l es
@@ -99,7 +103,9 @@ module _ (flash : SpiNorFlash) (offset : ℕ) (l : Lent) (es : List (Event Call)
   said : (xs : List (Entry Call (Left Setup Answer))) → Fine true (each quad xs true) → (Succeeded xs → Full true (each quad xs true)) → ReadSeen quad xs offset len
   said xs fine full = record {
     in_turn = fine.0;
-    all = fine.1 ∙ read_is quad xs true;
+    next = fine.1;
+    within = fine.2;
+    all = fine.3 ∙ read_is quad xs true;
     whole = λ e. ap length (sym (read_is quad xs true)) ∙ full e;
   }
 
@@ -109,7 +115,7 @@ module _ (flash : SpiNorFlash) (offset : ℕ) (l : Lent) (es : List (Event Call)
 
     joined-is : joined (pieces_in quad its_run) ≡ reads
     unfolding reads
-    joined-is = (in_run false).0.1 ∙ read_is quad its_run false
+    joined-is = (in_run false).0.3 ∙ read_is quad its_run false
 
     in_order : reads ≡ contents_from contents offset (length reads)
     in_order =
@@ -174,13 +180,13 @@ module _ (flash : SpiNorFlash) (offset : ℕ) (l : Lent) (es : List (Event Call)
   start = (unseen, got false [])
 
   abbrev Right : Sights → Type 0
-  Right = Q lines (SeenWrite.InOrder offset)
+  Right = Q lines (SeenWrite.InOrder offset size)
 
   abbrev ReadBack : Sights → Type 0
   ReadBack = SeenWrite.Whole size
 
   nothing : Right start
-  nothing = (tt, record { rest = []; whole = refl })
+  nothing = (tt, tt, omega arith, record { rest = []; whole = refl })
 
   writes : bounded_at nor_driver flash writing l ≡ true → Shows (watcher lines) Right (λ a y. ReadBack y) start (program_at nor_driver flash.setup writing l)
   unfolding coded
@@ -207,9 +213,11 @@ module _ (flash : SpiNorFlash) (offset : ℕ) (l : Lent) (es : List (Event Call)
   told : (xs : List (Entry Call (Left Setup Answer))) → Right (each lines xs false) → (Succeeded xs → ReadBack (each lines xs false)) → WriteSeen lines xs offset size
   told xs right full = record {
     in_turn = right.0;
-    programmed = right.1;
+    next = right.1;
+    within = right.2;
+    programmed = right.3;
     all_back = λ e. (full e).2;
-    same = λ e. (full e).0;
+    as_lent = λ e. (full e).0;
     whole = λ e. (full e).1;
   }
 
@@ -222,7 +230,7 @@ module _ (flash : SpiNorFlash) (offset : ℕ) (l : Lent) (es : List (Event Call)
   write-of = record {
     seen = told write_run seen_run.0 seen_run.1;
     ended = λ e. told write_steps (seen_end e).0 (λ h. (seen_end e).1);
-    same = same-data;
+    read_back = same-data;
     holds = λ contents e same answered.
         let ps = pieces_in lines write_steps in
         let end = seen_end e in

@@ -6,6 +6,7 @@ use mathlib.Core.Bool.{Bool, true, not, not-not}
 use mathlib.Core.Path.{◌≡◌, refl, ap, sym, ◌∙◌, subst}
 use mathlib.Core.List.{List, [], ◌∷◌, ◌++◌}
 use lib.ListN.{length, length-append}
+use Rattle.std.specs.Prelude.{Option, Some, None}
 use lib.Dec.{ltb}
 use borrow.Author.Tests.{ltb-true, ltb-false}
 use Rattle.qspi.specs.declared.transfer.Sink.{Sink}
@@ -20,7 +21,7 @@ use Rattle.spi_nor.specs.Transfer.{place_of, chunk_of, read_transfer}
 use Rattle.spi_nor.proofs.DeviceBounds.{device_bounds}
 use Rattle.spi_nor.proofs.Pieces.{chunk-within}
 use Rattle.spi_nor.specs.declared.setup.Setup.{Setup}
-use Rattle.nor_runs.specs.Chip.{InTurn, joined}
+use Rattle.nor_runs.specs.Chip.{InTurn, joined, AskedAt}
 use Rattle.nor_runs.specs.Observer.{Piece, piece}
 use Rattle.nor_runs.proofs.AsCoded.{read-loop, reading, read}
 use Rattle.nor_runs.proofs.Loops.{chunk-some}
@@ -36,8 +37,9 @@ place-exact offset done h =
     rw small (mod-eq_of_lt (omega arith))
 
 -- at every point of a run
-abbrev pub InOrder : ℕ → List ℕ → List Piece → List ℕ → Type 0
-InOrder offset programmed ps bytes = InTurn offset ps × (joined ps ≡ bytes)
+abbrev pub InOrder : (offset len : ℕ) → Option ℕ → List ℕ → List Piece → List ℕ → Type 0
+InOrder offset len asked programmed ps bytes =
+    InTurn offset ps × AskedAt (offset + length (joined ps)) asked × (length (joined ps) ≤ len) × (joined ps ≡ bytes)
 
 -- where it ended well
 abbrev pub Whole : ℕ → Sights → Type 0
@@ -45,15 +47,16 @@ Whole len z = length z.1.bytes ≡ len
 
 module _ (flash : Setup) (bounds : in_bounds_of flash.device ≡ true) (offset len : ℕ) where
   abbrev Sound : List Piece → List ℕ → Type 0
-  Sound = InOrder offset []
+  Sound = InOrder offset len None []
 
   abbrev Seeing : {A : Type 0} → (A → Sights → Type 0) → Sights → Prog A → Type 0
-  Seeing E z p = Sees flash.config.quad (InOrder offset) E z p
+  Seeing E z p = Sees flash.config.quad (InOrder offset len) E z p
 
-  sound-more : (ps : List Piece) (bytes new given : List ℕ) → Sound ps bytes → length new ≤ 65536 → Sound (ps ++ piece (offset + length bytes) new given ∷ []) (bytes ++ new)
-  sound-more ps bytes new given s small =
+  sound-more : (ps : List Piece) (bytes new given : List ℕ) → Sound ps bytes → length new ≤ 65536 → length bytes + length new ≤ len → Sound (ps ++ piece (offset + length bytes) new given ∷ []) (bytes ++ new)
+  sound-more ps bytes new given s small room =
       let p = piece (offset + length bytes) new given in
-      (in-turn-more ps p offset s.0 (ap (λ bs. offset + length bs) (sym s.1)) small, joined-more ps p ∙ ap (λ bs. bs ++ new) s.1)
+      let all : joined (ps ++ p ∷ []) ≡ bytes ++ new = joined-more ps p ∙ ap (λ bs. bs ++ new) s.3 in
+      (in-turn-more ps p offset s.0 (ap (λ bs. offset + length bs) (sym s.3)) small, tt, omega (arith, ap length all, length-append bytes new), all)
 
   module _ (within : offset + len ≤ flash.device.capacity) where
     -- the loop stands behind these pieces
@@ -85,15 +88,18 @@ module _ (flash : Setup) (bounds : in_bounds_of flash.device ≡ true) (offset l
 
       more : (new given : List ℕ) → length new ≡ size → Sound (ps ++ piece (offset + done) new given ∷ []) (bytes ++ new)
       more new given e =
-          subst (λ n. Sound (ps ++ piece (offset + n) new given ∷ []) (bytes ++ new)) stands.size (sound-more ps bytes new given stands.sound (omega (arith, most)))
+          subst (λ n. Sound (ps ++ piece (offset + n) new given ∷ []) (bytes ++ new)) stands.size (sound-more ps bytes new given stands.sound (omega (arith, most)) (omega (arith, room, stands.size)))
+
+      asking : InOrder offset len (Some (offset + done)) [] ps bytes
+      asking = (stands.sound.0, ap (λ n. offset + n) (sym stands.size ∙ sym (ap length stands.sound.3)), stands.sound.2, stands.sound.3)
 
       turn : Seeing (λ u y. Whole len y) (at [] ps (got mine bytes)) (transfer (read_transfer flash (place_of offset done) size (Sink.Buffer done)) >> read-loop flash fuel offset len (done + size))
       unfolding read_transfer
       turn =
           rw (place-exact offset done small)
           (shows_then (watcher flash.config.quad) _
-          (Transfers.reading flash.config.quad (InOrder offset) (offset + done) size small (Sink.Buffer done) [] ps (got mine bytes) stands.sound some more)
-          (λ v y came. from flash.config.quad (InOrder offset) came.4
+          (Transfers.reading flash.config.quad (InOrder offset len) (offset + done) size small (Sink.Buffer done) [] ps (got mine bytes) stands.sound asking some more)
+          (λ v y came. from flash.config.quad (InOrder offset len) came.4
           (goes (done + size) true (ps ++ piece (offset + done) came.0 came.1 ∷ []) (bytes ++ came.0) (omega (arith, some))
           (record { most = room; size = omega (arith, length-append bytes came.0, stands.size, came.2); sound = more came.0 came.1 came.2 }))))
 
@@ -114,5 +120,5 @@ module _ (flash : Setup) (bounds : in_bounds_of flash.device ≡ true) (offset l
       shows_then (watcher flash.config.quad) _
       {E = λ u y. (range_in_bounds flash.device.capacity offset len ≡ true) × (y ≡ at [] [] (got mine []))}
       (shows-refuse (watcher flash.config.quad) _ (not (range_in_bounds flash.device.capacity offset len)) _ (λ e. (sym (not-not _) ∙ ap not e, refl)))
-      (λ u y h. from flash.config.quad (InOrder offset) h.1
-      (loops (range-told flash.device.capacity offset len h.0) (len - 0) 0 mine [] [] (omega arith) (record { most = omega arith; size = refl; sound = (tt, refl) })))
+      (λ u y h. from flash.config.quad (InOrder offset len) h.1
+      (loops (range-told flash.device.capacity offset len h.0) (len - 0) 0 mine [] [] (omega arith) (record { most = omega arith; size = refl; sound = (tt, tt, omega arith, refl) })))

@@ -54,10 +54,10 @@ module _ (quad : Option NorQuadConfig) where
   abbrev pub watcher : Watcher Sights
   watcher = both (observer quad) (reader (λ command. true))
 
-  -- Q goes by the places programmed, the pieces and the bytes read
-  module _ (R : List ℕ → List Piece → List ℕ → Type 0) where
+  -- Q goes by what is asked, the places programmed, the pieces and the bytes read
+  module _ (R : Option ℕ → List ℕ → List Piece → List ℕ → Type 0) where
     abbrev pub Q : Sights → Type 0
-    Q z = R z.0.programmed z.0.pieces z.1.bytes
+    Q z = R z.0.asked z.0.programmed z.0.pieces z.1.bytes
 
     abbrev pub Sees : {A : Type 0} → (A → Sights → Type 0) → Sights → Prog A → Type 0
     Sees E z p = Shows watcher Q E z p
@@ -67,17 +67,21 @@ module _ (quad : Option NorQuadConfig) where
 
     -- ---- a read of the contents
 
-    module _ (place n : ℕ) (small : place < 16777216) (sink : Sink) (programmed : List ℕ) (pieces : List Piece) (g : Got) (q : R programmed pieces g.bytes) where
+    module _ (place n : ℕ) (small : place < 16777216) (sink : Sink) (programmed : List ℕ) (pieces : List Piece) (g : Got) (q : R None programmed pieces g.bytes)
+        (asking : R (Some place) programmed pieces g.bytes) where
       -- the bytes that came, beside these data, with the value that they gave
       abbrev pub Came : ℕ → Sights → Type 0
       Came v y = (new given : List ℕ) × (length new ≡ n) × (v ≡ value_of sink new given) × (y ≡ at programmed (pieces ++ piece place new given ∷ []) (got true (g.bytes ++ new)))
 
       -- without data nothing has come
-      none : (asked : Option ℕ) → R programmed (with_piece asked [] [] pieces) g.bytes
+      none : (asked : Option ℕ) → R None programmed (with_piece asked [] [] pieces) g.bytes
       none None = q
       none (Some p) = q
 
-      module _ (some : 1 ≤ n) (more : (new given : List ℕ) → length new ≡ n → R programmed (pieces ++ piece place new given ∷ []) (g.bytes ++ new)) where
+      asked-for : (asked : Option ℕ) → asked ≡ Some place → R asked programmed pieces g.bytes
+      asked-for asked e = subst (λ x. R x programmed pieces g.bytes) (sym e) asking
+
+      module _ (some : 1 ≤ n) (more : (new given : List ℕ) → length new ≡ n → R None programmed (pieces ++ piece place new given ∷ []) (g.bytes ++ new)) where
         abbrev heard : Option ℕ → (new given : List ℕ) → Sights
         heard asked new given = at programmed (with_piece asked given new pieces) (got true (behind true g.bytes new))
 
@@ -98,14 +102,14 @@ module _ (quad : Option NorQuadConfig) where
             at_width : (q : Option NorQuadConfig) → Shows (both (observer q) (reader (λ command. true))) Q Came (at programmed pieces g) (transfer (read_at q place n sink))
             at_width None =
                 shows-transfer _ Q (read_at None place n sink)
-                (q, (q, ((q, q), (q, ((q, q), (λ new given e. came _ (ap Some (address-exact place small)) new given e))))))
+                (q, (q, ((q, q), (asked-for _ (ap Some (address-exact place small)), ((q, q), (λ new given e. came _ (ap Some (address-exact place small)) new given e))))))
             at_width (Some x) =
                 shows-transfer _ Q (read_at (Some x) place n sink)
-                (q, (q, ((none _, none _), (λ new given e. came _ (place-asked x place small) new given e))))
+                (q, (asked-for _ (place-asked x place small), ((none _, none _), (λ new given e. came _ (place-asked x place small) new given e))))
 
     -- ---- what a write does beside: no byte of the contents is asked for
 
-    module _ (programmed : List ℕ) (pieces : List Piece) (q : (bytes : List ℕ) → R programmed pieces bytes) where
+    module _ (programmed : List ℕ) (pieces : List Piece) (q : (bytes : List ℕ) → R None programmed pieces bytes) where
       -- a program behind which the places and pieces are still these
       abbrev pub Quiet : {A : Type 0} → Got → Prog A → Type 0
       Quiet g p = Sees (λ a y. y.0 ≡ seen programmed pieces) (at programmed pieces g) p
@@ -154,9 +158,9 @@ module _ (quad : Option NorQuadConfig) where
 
       -- ---- a page is programmed
 
-      module _ (place : ℕ) (small : place < 16777216) (more : (bytes : List ℕ) → R (programmed ++ place ∷ []) pieces bytes) where
-        noted : (p : Option ℕ) → p ≡ Some place → (bytes : List ℕ) → R (with_place p programmed) pieces bytes
-        noted p e bytes = subst (λ x. R (with_place x programmed) pieces bytes) (sym e) (more bytes)
+      module _ (place : ℕ) (small : place < 16777216) (more : (bytes : List ℕ) → R None (programmed ++ place ∷ []) pieces bytes) where
+        noted : (p : Option ℕ) → p ≡ Some place → (bytes : List ℕ) → R None (with_place p programmed) pieces bytes
+        noted p e bytes = subst (λ x. R None (with_place x programmed) pieces bytes) (sym e) (more bytes)
 
         noted-is : (p : Option ℕ) → p ≡ Some place → seen (with_place p programmed) pieces ≡ seen (programmed ++ place ∷ []) pieces
         noted-is p e = ap (λ x. seen (with_place x programmed) pieces) e

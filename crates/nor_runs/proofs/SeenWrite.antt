@@ -6,6 +6,7 @@ use mathlib.Core.Bool.{Bool, true, false, not, not-not}
 use mathlib.Core.Path.{◌≡◌, refl, ap, sym, ◌∙◌}
 use mathlib.Core.List.{List, [], ◌∷◌, ◌++◌, append-nil}
 use lib.ListN.{length, length-append, take, drop}
+use Rattle.std.specs.Prelude.{Option, Some, None}
 use lib.Dec.{ltb, eqb}
 use borrow.Author.Tests.{ltb-true, ltb-false}
 use Rattle.std.proofs.Math.Seq.{take-append_seam}
@@ -26,7 +27,7 @@ use Rattle.spi_nor.specs.Transfer.{place_of, page_of, read_transfer, multiple_of
 use Rattle.spi_nor.proofs.DeviceBounds.{device_bounds}
 use Rattle.spi_nor.specs.declared.opcode.Operation.{Operation}
 use Rattle.spi_nor.specs.declared.setup.Setup.{Setup}
-use Rattle.nor_runs.specs.Chip.{InTurn, joined, places, SameAsLent}
+use Rattle.nor_runs.specs.Chip.{InTurn, joined, AskedAt, places, SameAsLent}
 use Rattle.nor_runs.specs.Observer.{Piece, piece, Sight}
 use Rattle.nor_runs.proofs.AsCoded.{read_back, page-program, write-loop, writing, write}
 use Rattle.nor_runs.proofs.Loops.{page-some}
@@ -46,16 +47,17 @@ compared from new given h = by (begins_of new (drop from given)) refl h
     by false e k = let z : ◌≡◌ {A = ℕ} 0 1 = cc in absurd (omega arith)
 
 -- at every point of a run
-abbrev pub InOrder : ℕ → List ℕ → List Piece → List ℕ → Type 0
-InOrder offset programmed ps bytes = InTurn offset ps × Prefix (places ps) programmed
+abbrev pub InOrder : (offset len : ℕ) → Option ℕ → List ℕ → List Piece → List ℕ → Type 0
+InOrder offset len asked programmed ps bytes =
+    InTurn offset ps × AskedAt (offset + length (joined ps)) asked × (length (joined ps) ≤ len) × Prefix (places ps) programmed
 
 -- where it ended well
 abbrev pub Whole : ℕ → Sights → Type 0
 Whole len z = SameAsLent 0 z.0.pieces × (length (joined z.0.pieces) ≡ len) × (places z.0.pieces ≡ z.0.programmed)
 
 module _ (flash : Setup) (bounds : in_bounds_of flash.device ≡ true) (offset len : ℕ) where
-  abbrev Sound : List ℕ → List Piece → List ℕ → Type 0
-  Sound = InOrder offset
+  abbrev Sound : Option ℕ → List ℕ → List Piece → List ℕ → Type 0
+  Sound = InOrder offset len
 
   abbrev Seeing : {A : Type 0} → (A → Sights → Type 0) → Sights → Prog A → Type 0
   Seeing E z p = Sees flash.config.quad Sound E z p
@@ -94,28 +96,36 @@ module _ (flash : Setup) (bounds : in_bounds_of flash.device ≡ true) (offset l
       abbrev programmed : List ℕ
       programmed = places ps ++ (offset + done) ∷ []
 
-      before : (bytes : List ℕ) → Sound (places ps) ps bytes
-      before bytes = (stands.in_turn, record { rest = []; whole = append-nil (places ps) })
+      so_far : length (joined ps) ≤ len
+      so_far = omega (arith, stands.size, stands.most)
 
-      sent : (bytes : List ℕ) → Sound programmed ps bytes
-      sent bytes = (stands.in_turn, record { rest = (offset + done) ∷ []; whole = refl })
+      before : (bytes : List ℕ) → Sound None (places ps) ps bytes
+      before bytes = (stands.in_turn, tt, so_far, record { rest = []; whole = append-nil (places ps) })
+
+      sent : (bytes : List ℕ) → Sound None programmed ps bytes
+      sent bytes = (stands.in_turn, tt, so_far, record { rest = (offset + done) ∷ []; whole = refl })
+
+      asking : (bytes : List ℕ) → Sound (Some (offset + done)) programmed ps bytes
+      asking bytes = (stands.in_turn, ap (λ n. offset + n) (sym stands.size), so_far, record { rest = (offset + done) ∷ []; whole = refl })
 
       more : (new given : List ℕ) → length new ≡ size → InTurn offset (ps ++ piece (offset + done) new given ∷ [])
       more new given e = in-turn-more ps (piece (offset + done) new given) offset stands.in_turn (ap (λ n. offset + n) (sym stands.size)) (omega (arith, most))
 
-      came : (g : Got) (new given : List ℕ) → length new ≡ size → Sound programmed (ps ++ piece (offset + done) new given ∷ []) (g.bytes ++ new)
-      came g new given e = (more new given e, record { rest = []; whole = append-nil _ ∙ places-more ps (piece (offset + done) new given) })
+      came : (g : Got) (new given : List ℕ) → length new ≡ size → Sound None programmed (ps ++ piece (offset + done) new given ∷ []) (g.bytes ++ new)
+      came g new given e =
+          let p = piece (offset + done) new given in
+          (more new given e, tt, omega (arith, ap length (joined-more ps p), length-append (joined ps) new, stands.size, room), record { rest = []; whole = append-nil _ ∙ places-more ps (piece (offset + done) new given) })
 
       -- what has come of a page that was read back as it was lent
       Programmed : Sights → Type 0
       Programmed y = (new given : List ℕ) × (length new ≡ size) × (new ≡ take (length new) (drop done given)) × (y.0 ≡ seen programmed (ps ++ piece (offset + done) new given ∷ []))
 
-      back : (g : Got) → Seeing (Transfers.Came flash.config.quad Sound (offset + done) size small (Sink.Compare done) programmed ps g (sent g.bytes)) (at programmed ps g) (read_back flash (offset + done) size done)
+      back : (g : Got) → Seeing (Transfers.Came flash.config.quad Sound (offset + done) size small (Sink.Compare done) programmed ps g (sent g.bytes) (asking g.bytes)) (at programmed ps g) (read_back flash (offset + done) size done)
       unfolding read_back read_transfer
       back g =
           shows_then (watcher flash.config.quad) _ {E = λ u y. y ≡ at programmed ps g}
           (shows-refuse (watcher flash.config.quad) _ (not (range_in_bounds flash.device.capacity (offset + done) size)) _ (λ e. refl))
-          (λ u y e. from flash.config.quad Sound e (Transfers.reading flash.config.quad Sound (offset + done) size small (Sink.Compare done) programmed ps g (sent g.bytes) some (came g)))
+          (λ u y e. from flash.config.quad Sound e (Transfers.reading flash.config.quad Sound (offset + done) size small (Sink.Compare done) programmed ps g (sent g.bytes) (asking g.bytes) some (came g)))
 
       programs : (g : Got) → Seeing (λ u y. Programmed y) (at (places ps) ps g) (page-program flash (offset + done) done size)
       unfolding page-program Programmed

@@ -56,21 +56,23 @@ module _ (sham : Subject Memory Call Setup Answer) (claims : ClaimsAll (in_place
 pub sham-runs-fail : ShamRunsFail
 unfolding watched Succeeded bytes_read
 sham-runs-fail = record {
-  whole = record { in_turn = (refl, omega arith, tt); all = refl; whole = λ e. refl };
-  in_pieces = record { in_turn = (refl, omega arith, (refl, omega arith, tt)); all = refl; whole = λ e. refl };
-  by_quad = record { in_turn = (refl, omega arith, tt); all = refl; whole = λ e. refl };
+  whole = record { in_turn = (refl, omega arith, tt); next = tt; within = omega arith; all = refl; whole = λ e. refl };
+  in_pieces = record { in_turn = (refl, omega arith, (refl, omega arith, tt)); next = tt; within = omega arith; all = refl; whole = λ e. refl };
+  by_quad = record { in_turn = (refl, omega arith, tt); next = tt; within = omega arith; all = refl; whole = λ e. refl };
   no-traffic = λ h. omega (arith, h.whole tt);
   rest-claimed = λ h. omega (arith, h.whole tt);
   offset-again = λ h. omega (arith, h.in_turn.2.0);
+  asked-again = λ h. omega (arith, h.next);
+  past-the-end = λ h. omega (arith, h.within);
   other-address = λ h. omega (arith, h.in_turn.0);
   lowest-first = λ h. omega (arith, h.in_turn.0);
   one-place-on = λ h. omega (arith, ap length h.all);
   status-for-contents = λ h. omega (arith, ap length h.all);
   other-opcode = λ h. omega (arith, ap length h.all);
-  back = record { in_turn = (refl, omega arith, tt); programmed = record { rest = []; whole = refl }; all_back = λ e. refl; same = λ e. (refl, tt); whole = λ e. refl };
-  back_by_quad = record { in_turn = (refl, omega arith, tt); programmed = record { rest = []; whole = refl }; all_back = λ e. refl; same = λ e. (refl, tt); whole = λ e. refl };
+  back = record { in_turn = (refl, omega arith, tt); next = tt; within = omega arith; programmed = record { rest = []; whole = refl }; all_back = λ e. refl; as_lent = λ e. (refl, tt); whole = λ e. refl };
+  back_by_quad = record { in_turn = (refl, omega arith, tt); next = tt; within = omega arith; programmed = record { rest = []; whole = refl }; all_back = λ e. refl; as_lent = λ e. (refl, tt); whole = λ e. refl };
   not-read_back = λ h. omega (arith, h.whole tt);
-  not-compared = λ h. omega (arith, ap second (h.same tt).0);
+  not-compared = λ h. omega (arith, ap second (h.as_lent tt).0);
   other-place = λ h. omega (arith, h.in_turn.0);
   written-elsewhere = λ h. omega (arith, ap first (h.all_back tt));
   never-written = λ h. omega (arith, ap length (h.all_back tt));

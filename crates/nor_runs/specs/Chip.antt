@@ -1,6 +1,6 @@
 -- What the chip holds and what a read delivers, and what a write has read back, for any contents of the chip (docs/SPECIFICATION.md, "Reads
 -- on the bus"): told from the bytes on the bus, whatever the replies and whatever is lent.
-use Rattle.std.specs.Prelude.{ℕ, ◌+◌, ◌≤◌, true, ◌≡◌, List, [], ◌∷◌, ◌++◌, length, take, drop, Option}
+use Rattle.std.specs.Prelude.{ℕ, ◌+◌, ◌≤◌, true, ◌≡◌, List, [], ◌∷◌, ◌++◌, length, take, drop, Option, Some, None}
 use Rattle.spi_flash.specs.Loan.{Lent}
 use Rattle.spi_flash.specs.Path.{Prefix}
 use Rattle.spi_flash.specs.Run.{Event, Entry}
@@ -31,6 +31,11 @@ abbrev pub places : List Piece → List ℕ
 places [] = []
 places (p ∷ ps) = p.place ∷ places ps
 
+-- what is asked of the contents, if anything is, is asked from this place
+abbrev pub AskedAt : ℕ → Option ℕ → Type 0
+AskedAt place None = Unit {0}
+AskedAt place (Some asked) = asked ≡ place
+
 -- the chip has answered with its contents: each piece holds them from the place that the command on the bus asked for
 abbrev pub FromChip : (contents : ℕ → ℕ) → List Piece → Type 0
 FromChip contents [] = Unit {0}
@@ -44,6 +49,7 @@ SameAsLent from (p ∷ ps) = (p.bytes ≡ take (length p.bytes) (drop from p.giv
 -- ---- a run
 
 module _ (quad : Option NorQuadConfig) {C A : Type 0} (xs : List (Entry C A)) where
+  -- what the observer has seen
   abbrev pub seen_in : Sight
   seen_in = watched (observer quad) unseen xs
 
@@ -58,6 +64,8 @@ module _ (quad : Option NorQuadConfig) {C A : Type 0} (xs : List (Entry C A)) wh
   -- a read of len bytes at offset: every byte that came was asked of the contents, in order, and at a good end they are all there
   pub record ReadSeen (offset len : ℕ) : Type 0 where
     pub in_turn : InTurn offset pieces_in
+    pub next : AskedAt (offset + length (joined pieces_in)) seen_in.asked
+    pub within : length (joined pieces_in) ≤ len
     pub all : joined pieces_in ≡ data_in
     pub whole : Succeeded xs → length data_in ≡ len
 
@@ -65,18 +73,22 @@ module _ (quad : Option NorQuadConfig) {C A : Type 0} (xs : List (Entry C A)) wh
   -- end all of them, each as the data were in the step that compared it
   pub record WriteSeen (offset len : ℕ) : Type 0 where
     pub in_turn : InTurn offset pieces_in
+    pub next : AskedAt (offset + length (joined pieces_in)) seen_in.asked
+    pub within : length (joined pieces_in) ≤ len
     pub programmed : Prefix (places pieces_in) seen_in.programmed
     pub all_back : Succeeded xs → places pieces_in ≡ seen_in.programmed
-    pub same : Succeeded xs → SameAsLent 0 pieces_in
+    pub as_lent : Succeeded xs → SameAsLent 0 pieces_in
     pub whole : Succeeded xs → length (joined pieces_in) ≡ len
 
 -- ---- a driver
 
 module _ {F A : Type 0} (driver : Driver F Call Setup A) where
+  -- the caller's quad setting
   abbrev pub quad_of : F → Option NorQuadConfig
   quad_of flash = (driver.setup flash).config.quad
 
   module _ (flash : F) (offset : ℕ) (l : Lent) (es : List (Event Call)) where
+    -- a read's run
     abbrev pub read_run : List (Entry Call (Left Setup A))
     read_run = run driver flash (Call.Read offset) l es
 
@@ -97,8 +109,8 @@ module _ {F A : Type 0} (driver : Driver F Call Setup A) where
       pub seen : WriteSeen (quad_of flash) (run driver flash (Call.Write offset) l es) offset (length l.given)
       pub ended : Succeeded write_steps → WriteSeen (quad_of flash) write_steps offset (length l.given)
       -- with the same data lent throughout, the bytes read back are the data
-      pub same : Succeeded write_steps → SameData l.given write_steps → joined (pieces_in (quad_of flash) write_steps) ≡ l.given
-      -- and so the chip, if it has answered with its contents, holds them from offset on
+      pub read_back : Succeeded write_steps → SameData l.given write_steps → joined (pieces_in (quad_of flash) write_steps) ≡ l.given
+      -- and so the chip, if it has answered with its contents, holds them from offset on, as it stood when each page was read back
       pub holds : (contents : ℕ → ℕ) → Succeeded write_steps → SameData l.given write_steps → FromChip contents (pieces_in (quad_of flash) write_steps) →
           contents_from contents offset (length l.given) ≡ l.given
 

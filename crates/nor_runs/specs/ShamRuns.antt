@@ -44,12 +44,12 @@ abbrev pub run_from : Event (Unit {0}) → List Exchange → (Event (Unit {0}) �
 run_from event [] rest = rest event
 run_from event (x ∷ xs) rest = gave event (act x.shown) ∷ run_from (reply x.kind x.bytes lent) xs rest
 
--- a good end, or an action more
+-- a good end, or this action more
 abbrev pub claimed : List Exchange → List Seen
 claimed xs = run_from (call tt lent) xs (λ event. gave event (ended tt) ∷ [])
 
-abbrev pub going_on : List Exchange → List Seen
-going_on xs = run_from (call tt lent) xs (λ event. gave event (act low) ∷ [])
+abbrev pub going_on : List Exchange → Shown → List Seen
+going_on xs shown = run_from (call tt lent) xs (λ event. gave event (act shown) ∷ [])
 
 -- ---- what a run is made of
 
@@ -95,6 +95,13 @@ rest_claimed = claimed (piece_at 5 (161 ∷ []) 1)
 -- the second piece read at the offset again
 abbrev pub offset_again : List Seen
 offset_again = claimed (piece_at 5 (161 ∷ []) 1 ++ piece_at 5 (161 ∷ []) 1)
+
+-- and only asked for again; and a byte behind the last one read
+abbrev pub asked_again : List Seen
+asked_again = going_on (piece_at 5 (161 ∷ []) 1 ++ done low ∷ done (write (3 ∷ 0 ∷ 0 ∷ 5 ∷ [])) ∷ []) (read 1)
+
+abbrev pub past_the_end : List Seen
+past_the_end = going_on (piece_at 5 both_bytes 2 ++ piece_at 7 (0 ∷ []) 1) low
 
 -- bytes of another address; of one sent lowest byte first
 abbrev pub other_address : List Seen
@@ -146,7 +153,7 @@ abbrev pub never_written : List Seen
 never_written = claimed (piece_at 5 both_bytes 2)
 
 abbrev pub read_back_first : List Seen
-read_back_first = going_on (piece_at 5 both_bytes 2)
+read_back_first = going_on (piece_at 5 both_bytes 2) low
 
 -- ---- the statement
 
@@ -162,6 +169,8 @@ pub record ShamRunsFail : Type 0 where
   pub no-traffic : ReadSeen None no_traffic 5 2 → ⊥
   pub rest-claimed : ReadSeen None rest_claimed 5 2 → ⊥
   pub offset-again : ReadSeen None offset_again 5 2 → ⊥
+  pub asked-again : ReadSeen None asked_again 5 2 → ⊥
+  pub past-the-end : ReadSeen None past_the_end 5 2 → ⊥
   pub other-address : ReadSeen None other_address 5 2 → ⊥
   pub lowest-first : ReadSeen None lowest_first 5 2 → ⊥
   pub one-place-on : ReadSeen None one_place_on 5 2 → ⊥
