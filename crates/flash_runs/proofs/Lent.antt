@@ -4,9 +4,11 @@ use Prim.Native.Nat.{ℕ}
 use native.Mathlib.Nat.{zero-add}
 use mathlib.Core.Bool.{Bool, true, false}
 use mathlib.Core.Logic.{◌⊎◌, ⊎_elim}
+use mathlib.Core.Option.{none}
 use mathlib.Core.Path.{◌≡◌, refl, ap, sym, ◌∙◌, subst}
 use mathlib.Core.List.{List, []}
 use lib.ListN.{length, take}
+use Rattle.qspi.specs.Choice.{pick}
 use Rattle.qspi.specs.Frame.{first_of, action_of}
 use Rattle.qspi.specs.Shown.{shown_of}
 use Rattle.qspi.specs.declared.frame.Stage.{Stage}
@@ -25,13 +27,16 @@ use Rattle.flash_runs.specs.Driver.{Left, takes_buffer, Driver, takes_at, progra
 use Rattle.flash_runs.specs.LentBytes.{LentBytes}
 use Rattle.flash_runs.specs.Reading.{bytes_read, ChangesRead, HoldsRead}
 use Rattle.flash_runs.specs.Scratch.{PutsOver}
-use Rattle.flash_runs.specs.Watch.{closed}
+use Rattle.flash_runs.specs.Watch.{closed, StopsOnError}
 use Rattle.flash_runs.proofs.General.{Parts, Place, decide_next, general}
 use Rattle.flash_runs.proofs.Filling.{Fills, first-filling}
 use Rattle.flash_runs.proofs.Buffer.{changes-read, holds_read}
 use Rattle.flash_runs.proofs.Supplies.{LendsAs, Supplies, Known}
 use Rattle.flash_runs.proofs.Runs.{same-run, same-state}
-use Rattle.flash_runs.proofs.Delivered.{counts}
+use Rattle.flash_runs.proofs.Begins.{begins_alike, begins_leave, delivered_first}
+use Rattle.flash_runs.proofs.Breaking.{stops}
+use Rattle.flash_runs.proofs.Delivered.{counts, still-counts}
+use Rattle.flash_runs.proofs.Refusals.{refusals-keep}
 use Rattle.flash_runs.proofs.Scratch.{settled-puts, puts-over}
 use Rattle.flash_runs.proofs.Views.{true≢false, shape, Opens, Nothing-begun, view, begun-opens, no_run, opens-steps, opens-run}
 
@@ -130,16 +135,33 @@ module _ {F C S A : Type 0} {driver : Driver F C S A} (known : Known driver) (fl
 
   -- ---- every other call
 
-  kept : takes_buffer (takes_at driver c l) ≡ false → KeepsBuffer (run_at driver flash c l es)
-  unfolding KeepsBuffer first_of
-  kept h = ⊎_elim (λ n. rw (nothing n) tt) opened begins
-    where
-      opened : Opened → KeepsBuffer (run_at driver flash c l es)
-      opened o =
-          let none : Bounded buffer_reads 0 (ask o.first (meaning o.at)) =
-          subst (Bounded buffer_reads 0) o.program (unread (takes_at driver c l) h (lends o)) in
-          rw (opens-run known flash o es)
-          (refl, keeps-buffer known.Valid (decide_next parts) (takes_at driver c l) meaning supplies.simulates es o.at (first_of o.first) o.valid none)
+  module _ (other : takes_buffer (takes_at driver c l) ≡ false) where
+    reads-none : (o : Opened) → Bounded buffer_reads 0 (ask o.first (meaning o.at))
+    reads-none o = subst (Bounded buffer_reads 0) o.program (unread (takes_at driver c l) other (lends o))
+
+    kept : KeepsBuffer (run_at driver flash c l es)
+    unfolding KeepsBuffer first_of
+    kept = ⊎_elim (λ n. rw (nothing n) tt) opened begins
+      where
+        opened : Opened → KeepsBuffer (run_at driver flash c l es)
+        opened o =
+            rw (opens-run known flash o es)
+            (refl, keeps-buffer known.Valid (decide_next parts) (takes_at driver c l) meaning supplies.simulates es o.at (first_of o.first) o.valid (reads-none o))
+
+    -- what is read stays with the driver
+    still-delivers : (o : Opened) → known.is.count (flash_after driver flash c l es) ≡ 0
+    unfolding Settling.settled first_of
+    still-delivers o =
+        ap (λ g. g.delivered) (same-state driver parts known.is flash c l es)
+        ∙ ap (λ m. (state_after (general parts driver.in_bounds) m.flash es).delivered) o.is
+        ∙ still-counts parts driver.in_bounds reads known.Valid meaning supplies.simulates (takes_at driver c l) o.built es o.at.setup o.at.phase 0 (first_of o.first) o.valid (reads-none o)
+
+  -- ---- what is delivered
+
+  counted : (own : Bool) → takes_buffer (takes_at driver c l) ≡ own → Opened →
+      known.is.count (flash_after driver flash c l es) ≡ length (pick own (bytes_read reads false (run_at driver flash c l es)) [])
+  counted true own o = opened-delivers own o
+  counted false other o = still-delivers other o
 
   -- ---- select
 
@@ -155,6 +177,15 @@ module _ {F C S A : Type 0} {driver : Driver F C S A} (known : Known driver) (fl
           (ends-high (decide_next parts) (takes_at driver c l) o.at (first_of o.first) es (select_after shown false)
           (subst (Raised Stage.Start o.first) (sym same) (first-raised o.first l.scratch l.given)))
 
+  -- ---- a bus error
+
+  breaks-off : StopsOnError none (run_at driver flash c l es)
+  unfolding StopsOnError first_of
+  breaks-off = ⊎_elim (λ n. rw (nothing n) tt) opened begins
+    where
+      opened : Opened → StopsOnError none (run_at driver flash c l es)
+      opened o = rw (opens-run known flash o es) (tt, stops (decide_next parts) (takes_at driver c l) supplies.simulates.on_failure es none o.at o.first Stage.Start _ tt)
+
   -- ---- the scratch
 
   puts : PutsOver closed (run_at driver flash c l es)
@@ -169,12 +200,17 @@ module _ {F C S A : Type 0} {driver : Driver F C S A} (known : Known driver) (fl
 module _ {F C S A : Type 0} {driver : Driver F C S A} (known : Known driver) where
   pub lent_bytes : LentBytes driver
   lent_bytes = record {
+    begins_alike = begins_alike known;
+    begins_leave = begins_leave known;
     changes = changes known;
     holds = holds known;
-    delivered = λ flash c l es own h buffer.
-        known.is.shows (flash_after driver flash c l es) buffer
-        ∙ ap (λ n. take n buffer) (opened-delivers known flash c l es own (begun-opens known flash c l h));
     keeps = kept known;
+    delivered = λ flash c l es h buffer.
+        known.is.shows (flash_after driver flash c l es) buffer
+        ∙ ap (λ n. take n buffer) (counted known flash c l es (takes_buffer (takes_at driver c l)) refl (begun-opens known flash c l h));
+    delivered_first = delivered_first known;
+    delivered_kept = λ flash r bytes l e h buffer. ap (λ f. driver.delivered f buffer) ((refusals-keep driver known.parts known.is).replies flash r bytes l e h).0;
     scratch = puts known;
     ends_high = high-at-end known;
+    stops_on_error = breaks-off known;
   }

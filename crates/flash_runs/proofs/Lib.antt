@@ -13,7 +13,9 @@ pub mod Views
 pub mod Refusals
 pub mod LeftBehind
 pub mod SameAsRust
+pub mod Begins
 pub mod Delivered
+pub mod Breaking
 pub mod Scratch
 pub mod Bills
 pub mod Lent

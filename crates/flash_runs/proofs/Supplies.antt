@@ -18,7 +18,8 @@ use Rattle.spi_flash.specs.Run.{Moved}
 use Rattle.spi_flash.specs.Seen.{select_after}
 use Rattle.spi_flash.specs.declared.loan.Takes.{Takes}
 use Rattle.spi_flash.proofs.Unread.{buffer_reads}
-use Rattle.flash_runs.specs.Driver.{Left, leaving, Sort, constructs, tells, releases, uses, takes_of, works_on, Driver}
+use Rattle.flash_runs.specs.Begins.{SameTaken}
+use Rattle.flash_runs.specs.Driver.{Left, leaving, Sort, constructs, tells, releases, uses, takes_of, works_on, Driver, takes_at}
 pub use Rattle.flash_runs.specs.Shams.{Asks}
 use Rattle.flash_runs.proofs.General as General
 use Rattle.flash_runs.proofs.General.{Then, Opening, constructing, telling, releasing, working, Parts, Running, is_busy, Flash, flash_of, Place, place, decide, decide_next, general}
@@ -122,6 +123,9 @@ module _ {F C S P A : Type 0} (driver : Driver F C S A) (parts : Parts S P A C) 
   pub record Supplies : Type 0 where
     pub simulates : Simulates Valid (decide_next parts) meaning
     pub opens : (s : S) (c : C) (b d : ℕ) → OpensAs s c b d (parts.opening s c b d)
+    -- by the length of what the call takes alone
+    pub alike : (s : S) (c : C) (l m : Lent) → SameTaken (takes_at driver c l) l m →
+        parts.opening s c (length l.buffer) (length l.given) ≡ parts.opening s c (length m.buffer) (length m.given)
     pub stays : (s : S) (phase : P) (o : Outcome) → Built phase → Stays Built s (parts.next s phase o)
     -- what the programs come to: the bill and that it is reached, the actions, a good end
     pub bounded : (s : S) (c : C) (b d : ℕ) → Bounds driver s c b d → Bounded delays (driver.delay_bound s c b d) (driver.program s c b d)

@@ -1,5 +1,6 @@
 pub mod Promises
 pub mod WithinBound
+pub mod Begins
 pub mod LentBytes
 pub mod Refusals
 pub mod SameAsRust

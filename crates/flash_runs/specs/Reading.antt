@@ -1,5 +1,5 @@
--- The bytes that a call reads for its caller, and the caller's buffer (document 01: "Its data replies answer reads from the chip's
--- cache, not of a register; the bytes read are those of its data replies so far").
+-- The bytes that a call reads for its caller, and the caller's buffer (docs/SPECIFICATION.md, "Lent memory"): what is read goes there,
+-- but that a register, an id, a marker and a read-back do not.
 use Rattle.std.specs.Prelude.{ℕ, ◌+◌, Bool, true, ◌≡◌, List, [], ◌∷◌, ◌++◌, length, drop}
 use Rattle.qspi.specs.Choice.{pick}
 use Rattle.qspi.specs.Shown.{Shown, low, high, write, read, quad_read, quad_write, delay}
@@ -57,14 +57,14 @@ module _ (reads : List ℕ → Bool) where
   bytes_read mine [] = []
   bytes_read mine (x ∷ xs) = read_by mine x ++ bytes_read (mine_then x.given mine) xs
 
-  -- "its steps change only the places of the bytes read so far": n of them before these steps
+  -- no step changes a place but those of the bytes read so far, of which there were n before these steps
   unfoldable pub ChangesRead : {C A : Type 0} → Bool → ℕ → List (Entry C A) → Type 0
   ChangesRead mine n [] = Unit {0}
   ChangesRead mine n (x ∷ xs) =
       SameFrom (n + length (read_by mine x)) x.left.buffer (lent_to x.event).buffer ×
       ChangesRead (mine_then x.given mine) (n + length (read_by mine x)) xs
 
-  -- "the buffer holds those bytes at their places and its old bytes elsewhere", after each step that is not refused
+  -- after each step that is taken the buffer holds the bytes read at its start, and behind them what stood there
   unfoldable pub HoldsRead : {C A : Type 0} → Bool → List ℕ → List ℕ → List (Entry C A) → Type 0
   HoldsRead mine old bytes [] = Unit {0}
   HoldsRead mine old bytes (x ∷ xs) =

@@ -1,9 +1,12 @@
 -- What is seen of a run from outside, step by step: a watcher sees the bytes of the actions given out, the data of the replies, and the
 -- caller's data lent beside them. It passes over what is refused (docs/SPECIFICATION.md, "Runs").
-use Rattle.std.specs.Prelude.{ℕ, true, List, [], ◌∷◌}
+use Rattle.std.specs.Prelude.{ℕ, true, ◌≡◌, List, [], ◌∷◌}
+use Rattle.std.proofs.Math.Option.{Option, none, some}
 use Rattle.qspi.specs.Shown.{Shown, low, high, write, read, quad_read, quad_write, delay}
+use Rattle.qspi.specs.declared.bus.Reply.{Reply}
 use Rattle.spi_flash.specs.Run.{Event, reply, call, Given, act, ended, failed, refused, Entry}
-use Rattle.spi_flash.specs.Seen.{unless_refused}
+use Rattle.spi_flash.specs.Seen.{unless_refused, Taken}
+use Rattle.spi_flash.specs.declared.error.FlashError.{FlashError}
 use Rattle.flash_runs.specs.Reading.{data_at}
 
 -- ---- watchers
@@ -60,7 +63,7 @@ command_in (commanded command) = command
 
 -- ---- a good end
 
--- the call has ended with an answer: "0 is success"
+-- the call has ended with an answer
 abbrev pub succeeded_then : {A : Type 0} → Given A → Type 0 → Type 0
 succeeded_then (act shown) later = later
 succeeded_then (ended a) later = Unit {0}
@@ -70,3 +73,27 @@ succeeded_then (refused e) later = later
 unfoldable pub Succeeded : {C A : Type 0} → List (Entry C A) → Type 0
 Succeeded [] = ⊥
 Succeeded (x ∷ xs) = succeeded_then x.given (Succeeded xs)
+
+-- ---- a bus error (docs/SPECIFICATION.md, "Actions and replies")
+
+-- the code that answers an action, if it is an error
+abbrev pub error_at : Reply → Option ℕ
+error_at Reply.Done = none
+error_at Reply.Data = none
+error_at (Reply.Error code) = some code
+
+abbrev pub error_in : {C : Type 0} → Event C → Option ℕ
+error_in (reply r bytes l) = error_at r
+error_in (call c l) = none
+
+-- what a step gives: when an error comes select goes high, and behind that the call fails with its code
+abbrev pub BreaksOff : {A : Type 0} → (before now : Option ℕ) → Given A → Type 0
+BreaksOff (some code) now given = given ≡ failed (FlashError.Spi code)
+BreaksOff none (some code) given = given ≡ act high
+BreaksOff none none given = Unit {0}
+
+-- over a run, with the error that came before; a refused step is passed over
+unfoldable pub StopsOnError : {C A : Type 0} → Option ℕ → List (Entry C A) → Type 0
+StopsOnError error [] = Unit {0}
+StopsOnError error (x ∷ xs) =
+    Taken x.given (BreaksOff error (error_in x.event) x.given) × StopsOnError (unless_refused x.given (error_in x.event) error) xs

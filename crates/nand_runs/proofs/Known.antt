@@ -21,7 +21,7 @@ use Rattle.nand_runs.proofs.Places.{parts, Valid}
 use Rattle.nand_runs.proofs.Keeps.{Built, stays-next}
 use Rattle.nand_runs.proofs.Meaning.{meaning}
 use Rattle.nand_runs.proofs.Simulation.{simulates}
-use Rattle.nand_runs.proofs.Opens.{opens}
+use Rattle.nand_runs.proofs.Opens.{opens, alike}
 use Rattle.nand_runs.proofs.Is.{nand-is}
 use Rattle.nand_runs.proofs.Lent.{lent}
 
@@ -105,6 +105,7 @@ pub supplies : Supplies nand_driver parts Valid Built meaning
 supplies = record {
   simulates = simulates;
   opens = opens;
+  alike = alike;
   stays = stays-next;
   bounded = λ s c b d h. bounded s c b d h;
   acts = λ s c b d h. acts s c b d h;

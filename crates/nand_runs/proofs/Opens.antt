@@ -5,13 +5,17 @@ use Rattle.spi_nand.specs.declared.config.NandQuadConfig.{NandQuadConfig}
 use Prim.Native.Nat.{ℕ}
 use mathlib.Core.Bool.{Bool, true, false}
 use mathlib.Core.Path.{◌≡◌, refl}
+use mathlib.Core.List.{List}
+use lib.ListN.{length}
 use lib.Dec.{ltb, eqb}
 use Rattle.qspi.specs.Choice.{pick}
 use Rattle.qspi.specs.declared.transfer.Payload.{Payload}
 use Rattle.qspi.specs.declared.transfer.Sink.{Sink}
+use Rattle.spi_flash.specs.Loan.{Lent}
 use Rattle.spi_flash.specs.Machine.{tree}
 use Rattle.spi_flash.specs.declared.loan.Takes.{Takes}
-use Rattle.flash_runs.specs.Driver.{uses}
+use Rattle.flash_runs.specs.Begins.{SameTaken}
+use Rattle.flash_runs.specs.Driver.{uses, takes_at}
 use Rattle.flash_runs.proofs.Supplies.{Stays, Selects, SelectsFirst, Use, OpensAs, onward-stays}
 use Rattle.spi_nand.specs.Command.{reset_command}
 use Rattle.spi_nand.specs.Config.{in_bounds, page_count_of, single_config}
@@ -146,3 +150,35 @@ opens s (Call.EraseBlock block) b d = used s (Call.EraseBlock block) b d Takes.N
 opens s (Call.Read offset) b d = used s (Call.Read offset) b d (Takes.Buffer b) (read_then s offset b) refl (λ h. reads s h offset b) (keeps-read-call (stays s) s refl offset b) (selects-read s offset b)
 opens s (Call.IsBadBlock block) b d = used s (Call.IsBadBlock block) b d Takes.Nothing (is_bad_then s block MarkerFor.Call) refl (λ h. tells-bad s block) (keeps-is-bad (stays s) s refl block MarkerFor.Call) (selects-is-bad s block MarkerFor.Call)
 opens s (Call.MarkBadBlock block) b d = used s (Call.MarkBadBlock block) b d Takes.Nothing (is_bad_then s block (MarkerFor.Check block)) refl (λ h. marks s block) (keeps-is-bad (stays s) s refl block (MarkerFor.Check block)) (selects-is-bad s block (MarkerFor.Check block))
+
+-- by the length of what the call takes alone
+pub alike : (s : Setup) (c : Call) (l m : Lent) → SameTaken (takes_at nand_driver c l) l m →
+    parts.opening s c (length l.buffer) (length l.given) ≡ parts.opening s c (length m.buffer) (length m.given)
+unfolding opening_of sort_of
+alike s Call.New l m h = refl
+alike s (Call.WithConfig config) l m h = refl
+alike s Call.Info l m h = refl
+alike s Call.Config l m h = refl
+alike s Call.Geometry l m h = refl
+alike s Call.Free l m h = refl
+alike s Call.DisableQuad l m h = refl
+alike s (Call.WriteRegister register value) l m h = refl
+alike s Call.WriteEnable l m h = refl
+alike s Call.ReadStatus l m h = refl
+alike s Call.ReadConfiguration l m h = refl
+alike s Call.ReadProtection l m h = refl
+alike s Call.Reset l m h = refl
+alike s Call.JedecId l m h = refl
+alike s Call.ResetAndIdentify l m h = refl
+alike s Call.EnsureConfiguration l m h = refl
+alike s Call.Unprotect l m h = refl
+alike s (Call.PageRead page) l m h = refl
+alike s (Call.ReadCache column) l m h = rw h refl
+alike s (Call.LoadProgramData column) l m h = rw h refl
+alike s (Call.ProgramExecute page) l m h = refl
+alike s (Call.ReadPage page) l m h = rw h refl
+alike s (Call.WritePage page) l m h = rw h refl
+alike s (Call.EraseBlock block) l m h = refl
+alike s (Call.Read offset) l m h = rw h refl
+alike s (Call.IsBadBlock block) l m h = refl
+alike s (Call.MarkBadBlock block) l m h = refl

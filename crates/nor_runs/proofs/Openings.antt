@@ -5,17 +5,20 @@ use Prim.Native.Nat.{ℕ}
 use native.Mathlib.Omega.{arith}
 use mathlib.Core.Bool.{Bool, true, false}
 use mathlib.Core.Path.{◌≡◌, refl, ap, sym, ◌∙◌}
+use lib.ListN.{length}
 use lib.Dec.{ltb}
 use borrow.Author.Tests.{le-ltb}
 use Rattle.qspi.specs.Choice.{pick}
 use Rattle.qspi.specs.declared.transfer.Sink.{Sink}
 use Rattle.qspi.specs.declared.transfer.Transfer.{Transfer}
 use Rattle.spi_flash.proofs.Laws.{then-assoc}
+use Rattle.spi_flash.specs.Loan.{Lent}
 use Rattle.spi_flash.specs.Prog.{Prog, ret, ask, ◌>>=◌, ◌>>◌, refuse}
 use Rattle.spi_flash.specs.Machine.{tree}
 use Rattle.spi_flash.specs.declared.loan.Takes.{Takes}
 use Rattle.qspi.proofs.Cases.{by_cases, keeps-pick}
-use Rattle.flash_runs.specs.Driver.{constructs, uses}
+use Rattle.flash_runs.specs.Begins.{SameTaken}
+use Rattle.flash_runs.specs.Driver.{constructs, uses, takes_at}
 use Rattle.flash_runs.proofs.General as General
 use Rattle.flash_runs.proofs.Supplies.{Selects, SelectsFirst, Construction, Use, OpensAs, onward-stays}
 use Rattle.spi_nor.specs.Config.{in_bounds_of, single_config}
@@ -197,3 +200,28 @@ opened s Call.Unprotect b d = transfers s Call.Unprotect b d _ _ refl (beginning
 opened s (Call.Erase from to) b d = used s (Call.Erase from to) b d Takes.Nothing (erase_then s from to) refl (λ h. erases s h from to) (keeps-erase-call s from to) (selects-erase s from to)
 opened s (Call.EraseSector offset) b d = unit-used s (Call.EraseSector offset) b d EraseKind.Sector offset refl (λ h. erases-one s h EraseKind.Sector offset)
 opened s (Call.EraseBlock offset) b d = unit-used s (Call.EraseBlock offset) b d EraseKind.Block offset refl (λ h. erases-one s h EraseKind.Block offset)
+
+-- by the length of what the call takes alone
+pub alike : (s : Setup) (c : Call) (l m : Lent) → SameTaken (takes_at nor_driver c l) l m →
+    nor_parts.opening s c (length l.buffer) (length l.given) ≡ nor_parts.opening s c (length m.buffer) (length m.given)
+unfolding opening_of
+alike s Call.New l m h = refl
+alike s (Call.WithConfig config) l m h = refl
+alike s Call.Config l m h = refl
+alike s Call.Device l m h = refl
+alike s Call.Id l m h = refl
+alike s Call.Free l m h = refl
+alike s Call.ReadStatus1 l m h = refl
+alike s Call.ReadStatus2 l m h = refl
+alike s Call.IsBusy l m h = refl
+alike s Call.JedecId l m h = refl
+alike s Call.UniqueId l m h = refl
+alike s Call.QuadEnabled l m h = refl
+alike s Call.EnableQuad l m h = refl
+alike s Call.DisableQuad l m h = refl
+alike s (Call.Read offset) l m h = rw h refl
+alike s (Call.Write offset) l m h = rw h refl
+alike s Call.Unprotect l m h = refl
+alike s (Call.Erase from to) l m h = refl
+alike s (Call.EraseSector offset) l m h = refl
+alike s (Call.EraseBlock offset) l m h = refl

@@ -14,7 +14,7 @@ use Rattle.nor_runs.proofs.Places.{nor_parts, Valid, Built, Stays}
 use Rattle.nor_runs.proofs.Keeps.{stays, keeps-built}
 use Rattle.nor_runs.proofs.Simulation.{meaning, simulates}
 use Rattle.nor_runs.proofs.Agrees.{same}
-use Rattle.nor_runs.proofs.Openings.{opened}
+use Rattle.nor_runs.proofs.Openings.{opened, alike}
 use Rattle.nor_runs.proofs.Bounds.{bounded, acts}
 use Rattle.nor_runs.proofs.Reaches.{ends, reached}
 use Rattle.nor_runs.proofs.Unread.{lent}
@@ -29,6 +29,7 @@ pub supplies : Supplies nor_driver nor_parts Valid Built meaning
 supplies = record {
   simulates = simulates;
   opens = opened;
+  alike = alike;
   stays = stays-next;
   bounded = bounded;
   acts = acts;

@@ -122,13 +122,13 @@ module _ (C : Type 0) {S A : Type 0} (next : S → Outcome → Decision S A) (ta
   -- they are replies that a host can give
   replies-real : (t : Transfer) (v : ℕ) (h : Fits given t v) (rs : List Answer) → RealReplies rs → RealReplies (replies_to t v h ++ rs)
   unfolding replies_to ok got
-  replies-real Transfer.Raise v h rs r = (tt, r)
-  replies-real (Transfer.Pause us) v h rs r = (tt, r)
-  replies-real (Transfer.Framed c Body.None) v h rs r = (tt, (tt, (tt, r)))
-  replies-real (Transfer.Framed c (Body.Read n sink)) v h rs r = (tt, (tt, (h.small, (tt, r))))
-  replies-real (Transfer.Framed c (Body.Write p)) v h rs r = (tt, (tt, (tt, (tt, r))))
-  replies-real (Transfer.Framed c (Body.QuadRead q m n sink)) v h rs r = (tt, (h.small, (tt, r)))
-  replies-real (Transfer.Framed c (Body.QuadWrite p)) v h rs r = (tt, (tt, (tt, r)))
+  replies-real Transfer.Raise v h rs r = (tt, tt, r)
+  replies-real (Transfer.Pause us) v h rs r = (tt, tt, r)
+  replies-real (Transfer.Framed c Body.None) v h rs r = (tt, tt, (tt, tt, (tt, tt, r)))
+  replies-real (Transfer.Framed c (Body.Read n sink)) v h rs r = (tt, tt, (tt, tt, (tt, h.small, (tt, tt, r))))
+  replies-real (Transfer.Framed c (Body.Write p)) v h rs r = (tt, tt, (tt, tt, (tt, tt, (tt, tt, r))))
+  replies-real (Transfer.Framed c (Body.QuadRead q m n sink)) v h rs r = (tt, tt, (tt, h.small, (tt, tt, r)))
+  replies-real (Transfer.Framed c (Body.QuadWrite p)) v h rs r = (tt, tt, (tt, tt, (tt, tt, r)))
 
   module _ (s : S) (Q : List Past → End A → Type 0) (rs : List Answer) where
     -- the transfer's value is v, and the call goes on to Q

@@ -40,10 +40,10 @@ buffer_reads t = sink_reads (sink_of t)
 
 -- ---- a program that is bounded by 0 does nothing of that weight
 
-none_first : {A : Type 0} {w : Transfer → ℕ} (t : Transfer) (k : ℕ → Prog A) → Bounded w 0 (ask t k) → w t ≤ 0
+pub none_first : {A : Type 0} {w : Transfer → ℕ} (t : Transfer) (k : ℕ → Prog A) → Bounded w 0 (ask t k) → w t ≤ 0
 none_first t k h = let l = h.bound.0 in omega arith
 
-none-later : {A : Type 0} {w : Transfer → ℕ} (t : Transfer) (k : ℕ → Prog A) → Bounded w 0 (ask t k) → (v : ℕ) → Bounded w 0 (k v)
+pub none-later : {A : Type 0} {w : Transfer → ℕ} (t : Transfer) (k : ℕ → Prog A) → Bounded w 0 (ask t k) → (v : ℕ) → Bounded w 0 (k v)
 none-later t k h v = record { bound = every-mono (k v) (λ xs e l. omega arith) (h.bound.2 v) }
 
 -- a wait reads registers alone

@@ -1,6 +1,5 @@
--- A run: one call's beginning, then any list of events, each with lent bytes of its own (document 01, "A run, as demand 3
--- takes it").
-use Rattle.std.specs.Prelude.{ℕ, ◌+◌, Bool, true, ◌≡◌, List, [], ◌∷◌}
+-- A run: one call's beginning, then any list of events, each with lent bytes of its own (docs/SPECIFICATION.md, "Runs").
+use Rattle.std.specs.Prelude.{ℕ, ◌+◌, ◌<◌, Bool, true, ◌≡◌, List, [], ◌∷◌}
 use Rattle.qspi.specs.Choice.{pick}
 use Rattle.qspi.specs.Bytes.{AllBytes}
 use Rattle.qspi.specs.Shown.{Shown, delay_of}
@@ -118,10 +117,14 @@ pub record Answer : Type 0 where
   pub kind : Reply
   pub bytes : List ℕ
 
--- replies that a host can give: bytes
+-- replies that a host can give: bytes, and an error code that is one
+abbrev pub RealKind : Reply → Type 0
+RealKind (Reply.Error code) = code < 256
+RealKind _ = Unit {0}
+
 abbrev pub RealReplies : List Answer → Type 0
 RealReplies [] = Unit {0}
-RealReplies (a ∷ rest) = AllBytes a.bytes × RealReplies rest
+RealReplies (a ∷ rest) = RealKind a.kind × AllBytes a.bytes × RealReplies rest
 
 abbrev pub answering : {C : Type 0} → List Answer → List Lent → List (Event C)
 answering [] ls = []
