@@ -10,6 +10,7 @@ use lib.ListN.{length, take, drop}
 use Rattle.std.proofs.Math.Seq.{take-append_seam}
 use Rattle.std.proofs.lemmas.List.{drop_all}
 use Rattle.qspi.specs.Frame.{Outcome}
+use Rattle.qspi.specs.Choice.{pick}
 use Rattle.spi_flash.specs.Loan.{Lent}
 use Rattle.spi_flash.specs.Prog.{ret}
 use Rattle.spi_flash.specs.Run.{Event, reply, call, Given, act, ended, failed, refused, Entry, goes_on}
@@ -112,7 +113,8 @@ module _ {F C S A : Type 0} {driver : Driver F C S A} (known : Known driver) (fl
     shows : Begun driver flash c l → holding →
         driver.delivered (flash_after driver flash c l es) (buffer_after l.buffer (run driver flash c l es)) ≡ contents_from contents place (length reading)
     shows b h =
-        lent.delivered flash c l es own b (buffer_after l.buffer (run driver flash c l es))
+        lent.delivered flash c l es b (buffer_after l.buffer (run driver flash c l es))
+        ∙ ap (λ x. take (length (pick x reading [])) (buffer_after l.buffer (run driver flash c l es))) own
         ∙ ap (take (length reading)) (held h)
         ∙ take-append_seam reading (drop (length reading) l.buffer)
         ∙ in_order
