@@ -29,7 +29,7 @@ abbrev second : List ℕ → ℕ
 second [] = 0
 second (x ∷ xs) = first xs
 
--- ---- a driver that claims success with no traffic
+-- ---- a driver that claims every success at once
 
 module _ (sham : Subject Memory Call Setup Answer) (claims : ClaimsAll (in_place nor_driver sham)) (delivers : DeliversTheChip (in_place nor_driver sham)) where
   -- one byte is asked for
