@@ -1,15 +1,12 @@
 -- The feature registers (nand/driver.rs: bring_up, ensure_configuration, unprotect, disable_quad), cut where they use the bus.
 use Rattle.std.specs.Prelude.{ℕ, ◌/◌, ◌%◌, Bool, true, false, leb, Err, Option, Some, None}
-use Rattle.spi_nand.specs.declared.config.NandQuadConfig.{NandQuadConfig}
-use Rattle.std.specs.Int.Bits.{bit_or}
 use Rattle.qspi.specs.Choice.{pick}
 use Rattle.spi_flash.specs.declared.error.FlashError.{FlashError}
 use Rattle.spi_nand.specs.Config.{from_jedec, wanted_for}
 use Rattle.spi_nand.specs.Opcode.{REG-CONFIGURATION, REG-BLOCK-PROTECTION}
-use Rattle.spi_nand.specs.Status.{ECC-ENABLE, BUFFER-READ, QUAD-ENABLE, OPERATIONAL, configuration_byte, quad_enabled_of, with_bits, same_configuration, is_unlocked}
+use Rattle.spi_nand.specs.Status.{QUAD-ENABLE, configuration_byte, quad_enabled_of, with_bits, same_configuration, is_unlocked}
 use Rattle.spi_nand.specs.declared.config.NandGeometry.{NandGeometry}
 use Rattle.spi_nand.specs.declared.config.NandJedecId.{NandJedecId}
-use Rattle.spi_nand.specs.declared.config.SpiNandConfig.{SpiNandConfig}
 use Rattle.spi_nand.specs.declared.status.Configuration.{Configuration}
 use Rattle.spi_nand.specs.declared.status.Protection.{Protection}
 use Rattle.spi_nand.specs.declared.answer.Answer.{Answer}
