@@ -135,6 +135,15 @@ module _ {Z : Type 0} (w : Watcher Z) (Q : Z → Type 0) where
   sees-bind E F z (fail e) k h l = tt
   sees-bind E F z (ask t j) k h l = (h.0, start-mono (λ y v m. sees-bind E F y (j v) k m l) _ t h.1)
 
+  sees-mono : {A : Type 0} (E F : A → Z → Type 0) (z : Z) (p : Prog A) → ((a : A) (y : Z) → E a y → F a y) → Sees E z p → Sees F z p
+  sees-mono E F z (ret a) l h = l a z h
+  sees-mono E F z (fail e) l h = tt
+  sees-mono E F z (ask t j) l h = (h.0, start-mono (λ y v m. sees-mono E F y (j v) l m) _ t h.1)
+
+  -- what is seen at a good end tells what is to be seen
+  pub shows-mono : {A : Type 0} {E F : A → Z → Type 0} {z : Z} {p : Prog A} → ((a : A) (y : Z) → E a y → F a y) → Shows E z p → Shows F z p
+  shows-mono {E = E} {F} {z} {p} l h = record { shows = sees-mono E F z p l h.shows }
+
   pub shows-ret : {A : Type 0} {E : A → Z → Type 0} {z : Z} {a : A} → E a z → Shows E z (ret a)
   shows-ret h = record { shows = h }
 

@@ -49,12 +49,12 @@ unread s h c b d none = bounded-more none (weighed unread-figures s h c b d)
 
 -- ---- a load asks for registers alone
 
-quiet-status : Quiet reads_cache read-status
+pub quiet-status : Quiet reads_cache read-status
 unfolding read-status
 quiet-status = quiet_bind reads_cache (quiet_bind reads_cache (quiet-transfer reads_cache refl) (λ v. quiet-ret reads_cache)) (λ byte. quiet-ret reads_cache)
 
 module _ (s : Setup) where
-  quiet-page-read : (page : ℕ) → Quiet reads_cache (page-read s page)
+  pub quiet-page-read : (page : ℕ) → Quiet reads_cache (page-read s page)
   unfolding page-read load-page wait-ready
   quiet-page-read page =
       quiet_then reads_cache (quiet-refuse reads_cache (not (ltb page (page_count_of s.geometry))) FlashError.OutOfBounds)

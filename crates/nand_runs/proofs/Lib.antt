@@ -21,6 +21,8 @@ pub mod Begins
 pub mod SeenCalls
 pub mod SeenRead
 pub mod LeastDelay
+pub mod SeenPages
+pub mod ReadBack
 pub mod SeenRuns
 pub mod SeenSteps
 pub mod ReadPromises

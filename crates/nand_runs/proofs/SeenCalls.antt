@@ -12,28 +12,31 @@ use lib.ListN.{length}
 use lib.Dec.{leb, ltb, eqb}
 use Rattle.qspi.specs.Transfer.{command_only}
 use Rattle.qspi.specs.Address.{read_from}
+use Rattle.qspi.specs.ShownBytes.{payload_bytes}
+use Rattle.qspi.specs.declared.transfer.Payload.{Payload}
 use Rattle.qspi.specs.declared.transfer.Sink.{Sink}
 use Rattle.qspi.specs.declared.transfer.Transfer.{Transfer}
 use Rattle.qspi.proofs.Cases.{by_cases}
 use Rattle.spi_flash.specs.Bits.{is_set, is_clear}
-use Rattle.spi_flash.specs.Prog.{Prog, ◌>>◌, transfer}
+use Rattle.spi_flash.specs.Prog.{Prog, ◌>>◌, refuse, transfer}
+use Rattle.spi_flash.specs.declared.error.FlashError.{FlashError}
 use Rattle.spi_flash.specs.WaitLaw.{wait_loop, waiting, delayed_wait}
 use Rattle.spi_flash.specs.declared.wait.Timings.{Timings}
 use Rattle.spi_flash.proofs.Bits.{any-bit, field}
 use Rattle.flash_runs.specs.Watch.{Watcher, closed}
 use Rattle.flash_runs.proofs.Watchers.{both, Got, got, behind-mine, reader}
 use Rattle.flash_runs.proofs.Watching.{Shows, shows-ret, shows-fail, shows-bind, shows_then, shows-refuse, shows-transfer}
-use Rattle.spi_nand.specs.Command.{page_read_command, get_feature_command}
+use Rattle.spi_nand.specs.Command.{page_read_command, get_feature_command, write_enable_command, program_execute_command}
 use Rattle.spi_nand.specs.Config.{page_count_of}
 use Rattle.spi_nand.specs.Opcode.{REG-STATUS, timings_of}
 use Rattle.spi_nand.specs.Status.{ECC-MASK, status_of, busy_of, busy_value, verdict_at, verdict_of}
 use Rattle.spi_nand.specs.declared.opcode.Operation.{Operation}
 use Rattle.spi_nand.specs.declared.status.Status.{Status}
-use Rattle.spi_nand.specs.Transfer.{register_transfer, cache_read_at, cache_read_transfer, in_cache}
+use Rattle.spi_nand.specs.Transfer.{register_transfer, cache_read_at, cache_read_transfer, cache_load_at, cache_load_transfer, in_cache}
 use Rattle.spi_nand.specs.declared.setup.Setup.{Setup}
-use Rattle.nand_runs.specs.Observer.{reads_cache, Load, waited, judged, other, ReadByte, Sight, load_after, verdict_bits, verdicts_after, bytes_at, observer}
+use Rattle.nand_runs.specs.Observer.{reads_cache, Load, unloaded, waited, judged, other, ReadByte, Sight, load_after, verdict_bits, verdicts_after, bytes_at, observer}
 use Rattle.nand_runs.specs.Observer as Observer
-use Rattle.nand_runs.specs.Rust.{read-status, wait-ready, load-page, uncorrectable, page-read, read-cache}
+use Rattle.nand_runs.specs.Rust.{read-status, wait-ready, write-enable, load-page, uncorrectable, page-read, read-cache, load-program-data, program-execute}
 
 -- ---- numbers
 
@@ -160,6 +163,76 @@ module _ (R : List ℕ → List ReadByte → List ℕ → Bool → Type 0) where
         let timings = timings_of operation in
         to-then (pause false (Observer.waiting page) timings.initial_us) (wait-loop page timings _ timings.initial_us false)
 
+  -- ---- what asks for nothing of the cache, before any load
+
+  module _ (t : Tally) (q : Right t) where
+    -- whosever data the last write asked for
+    abbrev pub Unloaded : {A : Type 0} → A → Sights → Type 0
+    Unloaded a y = (mine : Bool) × (y ≡ at mine unloaded t)
+
+    abbrev pub Idle : {A : Type 0} → Prog A → Type 0
+    Idle p = (mine : Bool) → Sees Unloaded (at mine unloaded t) p
+
+    pub idle-then : {A B : Type 0} {E : B → Sights → Type 0} {p : Prog A} {k : Prog B} → Idle p → ((mine : Bool) → Sees E (at mine unloaded t) k) → (mine : Bool) → Sees E (at mine unloaded t) (p >> k)
+    idle-then h l mine = shows_then watcher Q (h mine) (λ a y e. from e.1 (l e.0))
+
+    pub idle-refuse : (b : Bool) (e : FlashError) → Idle (refuse b e)
+    idle-refuse b e mine = shows-refuse watcher Q b e (λ h. (mine, refl))
+
+    idle-look : (mine : Bool) → Sees (λ v y. y ≡ at false unloaded t) (at mine unloaded t) (transfer (register_transfer REG-STATUS))
+    idle-look mine = look t q mine unloaded
+
+    idle-status : (mine : Bool) → Sees (λ status y. y ≡ at false unloaded t) (at mine unloaded t) read-status
+    unfolding read-status
+    idle-status mine =
+        shows-bind watcher Q {E = λ byte y. y ≡ at false unloaded t}
+        (shows-bind watcher Q (idle-look mine) (λ v y e. shows-ret watcher Q e))
+        (λ byte y e. shows-ret watcher Q e)
+
+    idle-loop : (timings : Timings) (fuel sum : ℕ) → Idle (wait_loop (get_feature_command REG-STATUS) busy_value fuel timings sum)
+    unfolding wait_loop
+    idle-loop timings zero sum mine = shows-fail watcher Q
+    idle-loop timings (suc fuel) sum mine =
+        shows-bind watcher Q (idle-look mine)
+        (λ v y e. from e
+        (by_cases (busy_value v)
+        (λ busy. rw busy
+        (by_cases (leb timings.timeout_us sum)
+        (λ late. rw late (shows-fail watcher Q))
+        (λ early. rw early (to-then (pause t q false unloaded timings.poll_us) (idle-loop timings fuel (sum + timings.poll_us) false)))))
+        (λ ready. rw ready (shows-ret watcher Q (false, refl)))))
+
+    idle-wait : (operation : Operation) → Idle (wait-ready operation)
+    unfolding wait-ready delayed_wait waiting
+    idle-wait operation mine =
+        let timings = timings_of operation in
+        to-then (pause t q mine unloaded timings.initial_us) (idle-loop timings _ timings.initial_us mine)
+
+    pub enabling : Idle write-enable
+    unfolding write-enable
+    enabling mine =
+        to-then (shows-transfer watcher Q (command_only write_enable_command) (q, (q, (q, (q, refl)))))
+        (shows-bind watcher Q (idle-status false) (λ status y e. from e (idle-refuse _ _ false)))
+
+    loads-data : (quad : Option NandQuadConfig) (column : ℕ) (payload : Payload) → Idle (transfer (cache_load_at quad column payload))
+    loads-data None column payload mine =
+        shows-transfer watcher Q (cache_load_at None column payload) (q, (q, ((q, q), (λ given. (q, (q, (q, (reads_cache (payload_bytes payload given), refl))))))))
+    loads-data (Some quad) column payload mine =
+        shows-transfer watcher Q (cache_load_at (Some quad) column payload) (q, (λ given. (q, (q, (q, (mine, refl))))))
+
+    pub loading-data : (flash : Setup) (column n : ℕ) (payload : Payload) → Idle (load-program-data flash column n payload)
+    unfolding load-program-data cache_load_transfer
+    loading-data flash column n payload =
+        idle-then (idle-refuse _ _) (idle-then (loads-data flash.config.quad column payload) (λ mine. shows-ret watcher Q (mine, refl)))
+
+    pub executing : (flash : Setup) (page : ℕ) → Idle (program-execute flash page)
+    unfolding program-execute
+    executing flash page =
+        idle-then (idle-refuse _ _)
+        (idle-then (λ mine. shows-transfer watcher Q (command_only (program_execute_command page)) (q, (q, (q, (q, (false, refl))))))
+        (idle-then (idle-wait Operation.Program)
+        (λ mine. shows-bind watcher Q (idle-status mine) (λ status y e. from e (idle-refuse _ _ false)))))
+
   -- ---- a load, and its verdict
 
   module _ (page : ℕ) (small : page < 16777216) (mine : Bool) (load : Load) (t : Tally) (q : Right t) (more : Right (loaded page t)) where
@@ -199,7 +272,7 @@ module _ (R : List ℕ → List ReadByte → List ℕ → Bool → Type 0) where
 
   -- ---- a read of the cache
 
-  module _ (page column n place : ℕ) (small : column < 65536) (t : Tally) (q : Right t) (more : (new : List ℕ) → length new ≡ n → Right (bytes_came page column new t)) where
+  module _ (page column n : ℕ) (sink : Sink) (small : column < 65536) (t : Tally) (q : Right t) (more : (new : List ℕ) → length new ≡ n → Right (bytes_came page column new t)) where
     abbrev pub Read : ℕ → Sights → Type 0
     Read v y = (new : List ℕ) × (length new ≡ n) × (y ≡ at true (judged page) (bytes_came page column new t))
 
@@ -207,16 +280,16 @@ module _ (R : List ℕ → List ReadByte → List ℕ → Bool → Type 0) where
     none : R t.loads (t.reads ++ []) t.bytes true
     none = rw (append-nil t.reads) q
 
-    cache : (quad : Option NandQuadConfig) → Sees Read (at false (judged page) t) (transfer (cache_read_at quad column n (Sink.Buffer place)))
+    cache : (quad : Option NandQuadConfig) → Sees Read (at false (judged page) t) (transfer (cache_read_at quad column n sink))
     cache None =
         let exact = column-exact column small in
-        shows-transfer watcher Q (cache_read_at None column n (Sink.Buffer place))
+        shows-transfer watcher Q (cache_read_at None column n sink)
         (q, (q, ((q, q), (q, ((none, none), (λ new given e. rw (exact, behind-mine t.bytes new) (more new e, (more new e, (new, e, refl)))))))))
     cache (Some quad) =
         let exact = column-exact column small in
-        shows-transfer watcher Q (cache_read_at (Some quad) column n (Sink.Buffer place))
+        shows-transfer watcher Q (cache_read_at (Some quad) column n sink)
         (q, (q, ((none, none), (λ new given e. rw (exact, behind-mine t.bytes new) (more new e, (more new e, (new, e, refl)))))))
 
-    pub reading-cache : (flash : Setup) → Sees Read (at false (judged page) t) (read-cache flash column n (Sink.Buffer place))
+    pub reading-cache : (flash : Setup) → Sees Read (at false (judged page) t) (read-cache flash column n sink)
     unfolding read-cache cache_read_transfer
     reading-cache flash = to-then (shows-refuse watcher Q (not (in_cache flash.geometry column n)) _ (λ e. refl)) (cache flash.config.quad)

@@ -211,7 +211,7 @@ module _ (flash : Setup) (bounds : in_bounds flash.geometry ≡ true) (offset le
           (shows_then watcher (Q Sound) (loading-page Sound page (page-small i done below stands.counts) mine load before right right-loaded flash)
           (λ u y judges. from Sound judges.2
           (shows_then watcher (Q Sound)
-          (reading-cache Sound page column size done (column-small i done below stands.counts) (verdict_noted judges.0 (loaded page before)) right-loaded (right-read judges.0) flash)
+          (reading-cache Sound page column size (Sink.Buffer done) (column-small i done below stands.counts) (verdict_noted judges.0 (loaded page before)) right-loaded (right-read judges.0) flash)
           (λ v x came. from Sound (came.2 ∙ ap (at true (judged page)) (next-tally judges.0 came.0 came.1))
           (goes (done + size) (suc i) true (judged page) (verdicts ++ judges.0 ∷ []) (bytes ++ came.0) (omega arith) (stands_on judges.0 came.0 judges.1 came.1))))))
 

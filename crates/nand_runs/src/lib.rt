@@ -14,7 +14,8 @@ pub fn nand_promises()
 {}
 
 /// Whatever the chip holds: where it answers each read of its cache with what it holds at the place that the bytes on the bus asked
-/// for, a read delivers just the chip's bytes from its offset on, at every step and at a good end.
+/// for, `read`, `read_page`, and `read_cache` behind a `page_read`, deliver just the chip's bytes, at every step and at a good end; and a
+/// `write_page` that ends well has read back the data lent.
 pub fn nand_delivers_the_chip()
     ensures { DeliversTheChip nand_driver }
 {}
