@@ -114,6 +114,23 @@ lowest_first = claimed (asked ((3 ∷ 5 ∷ 0 ∷ 0 ∷ []) ∷ []) both_bytes 2
 abbrev pub one_place_on : List Seen
 one_place_on = claimed (asked ((3 ∷ 0 ∷ 0 ∷ 5 ∷ []) ∷ (0 ∷ []) ∷ []) both_bytes 2)
 
+-- a byte ahead of the command, or behind it in one write: no read of the contents for the chip
+abbrev pub byte_ahead : List Seen
+byte_ahead = claimed (asked ((0 ∷ []) ∷ (3 ∷ 0 ∷ 0 ∷ 5 ∷ []) ∷ []) both_bytes 2)
+
+abbrev pub longer_command : List Seen
+longer_command = claimed (asked ((3 ∷ 0 ∷ 0 ∷ 5 ∷ 0 ∷ []) ∷ []) both_bytes 2)
+
+abbrev pub byte_ahead_of_quad : List Seen
+byte_ahead_of_quad = claimed (done low ∷ done (write (0 ∷ [])) ∷ got (quad_read (0x6B ∷ 0 ∷ 0 ∷ 5 ∷ []) 8 0 2) both_bytes ∷ done high ∷ [])
+
+-- read when select is high again; with select high throughout
+abbrev pub read_unselected : List Seen
+read_unselected = claimed (done low ∷ done (write (3 ∷ 0 ∷ 0 ∷ 5 ∷ [])) ∷ done high ∷ got (read 2) both_bytes ∷ [])
+
+abbrev pub never_selected : List Seen
+never_selected = claimed (done (write (3 ∷ 0 ∷ 0 ∷ 5 ∷ [])) ∷ got (read 2) both_bytes ∷ [])
+
 -- the contents read by the status command; by a quad opcode that is not the caller's
 abbrev pub status_for_contents : List Seen
 status_for_contents = claimed (asked ((5 ∷ []) ∷ []) both_bytes 2)
@@ -123,8 +140,11 @@ other_opcode = claimed (quad_piece 0xEB 5 both_bytes 2)
 
 -- ---- a write, with a page of 2
 
+abbrev pub sent_by : (opcode place : ℕ) → List Exchange
+sent_by opcode place = done low ∷ done (write (opcode ∷ 0 ∷ 0 ∷ place ∷ [])) ∷ done (write both_bytes) ∷ done high ∷ []
+
 abbrev pub programmed_at : ℕ → List Exchange
-programmed_at place = done low ∷ done (write (2 ∷ 0 ∷ 0 ∷ place ∷ [])) ∷ done (write both_bytes) ∷ done high ∷ []
+programmed_at place = sent_by 2 place
 
 abbrev pub quad_programmed : List Exchange
 quad_programmed = done low ∷ done (quad_write (0x32 ∷ 0 ∷ 0 ∷ 5 ∷ []) both_bytes) ∷ done high ∷ []
@@ -145,9 +165,12 @@ not_compared = claimed (programmed_at 5 ++ piece_at 5 (161 ∷ 0 ∷ []) 2)
 abbrev pub other_place : List Seen
 other_place = claimed (programmed_at 5 ++ piece_at 7 both_bytes 2)
 
--- written elsewhere than read back; never written; read back before it was written
+-- written elsewhere than read back; by another command; never written; read back before it was written
 abbrev pub written_elsewhere : List Seen
 written_elsewhere = claimed (programmed_at 7 ++ piece_at 5 both_bytes 2)
+
+abbrev pub other_command : List Seen
+other_command = claimed (sent_by 4 5 ++ piece_at 5 both_bytes 2)
 
 abbrev pub never_written : List Seen
 never_written = claimed (piece_at 5 both_bytes 2)
@@ -174,6 +197,11 @@ pub record ShamRunsFail : Type 0 where
   pub other-address : ReadSeen None other_address 5 2 → ⊥
   pub lowest-first : ReadSeen None lowest_first 5 2 → ⊥
   pub one-place-on : ReadSeen None one_place_on 5 2 → ⊥
+  pub byte-ahead : ReadSeen None byte_ahead 5 2 → ⊥
+  pub longer-command : ReadSeen None longer_command 5 2 → ⊥
+  pub byte-ahead-of-quad : ReadSeen quad byte_ahead_of_quad 5 2 → ⊥
+  pub read-unselected : ReadSeen None read_unselected 5 2 → ⊥
+  pub never-selected : ReadSeen None never_selected 5 2 → ⊥
   pub status-for-contents : ReadSeen None status_for_contents 5 2 → ⊥
   pub other-opcode : ReadSeen quad other_opcode 5 2 → ⊥
   -- lawful writes
@@ -184,6 +212,7 @@ pub record ShamRunsFail : Type 0 where
   pub not-compared : WriteSeen None not_compared 5 2 → ⊥
   pub other-place : WriteSeen None other_place 5 2 → ⊥
   pub written-elsewhere : WriteSeen None written_elsewhere 5 2 → ⊥
+  pub other-command : WriteSeen None other_command 5 2 → ⊥
   pub never-written : WriteSeen None never_written 5 2 → ⊥
   pub read_back-first : WriteSeen None read_back_first 5 2 → ⊥
   -- and no driver that claims success with no traffic delivers the chip
