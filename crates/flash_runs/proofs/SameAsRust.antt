@@ -1,23 +1,30 @@
 -- Every call does what its program does, and leaves the driver that it leaves.
 use Prim.Native.Nat.{ℕ}
 use native.Mathlib.Omega.{arith}
-use mathlib.Core.Logic.{⊎_elim}
+use mathlib.Core.Bool.{Bool, true, false}
+use mathlib.Core.Logic.{◌⊎◌, inl, inr, ⊎_elim}
+use mathlib.Core.Option.{Option, none}
 use mathlib.Core.Path.{◌≡◌, refl, ap, ap₂, sym, ◌∙◌, subst}
-use mathlib.Core.List.{List, [], ◌∷◌}
+use mathlib.Core.List.{List, [], ◌∷◌, map}
 use lib.ListN.{length}
 use Rattle.spi_flash.specs.Loan.{Lent}
-use Rattle.spi_flash.specs.Prog.{Prog}
-use Rattle.spi_flash.specs.Run.{Event, System, goes_on, Fitting, at_once, call_of}
-use Rattle.spi_flash.specs.Seen.{told_then, told, replies_of, SameData, Undisturbed}
-use Rattle.spi_flash.specs.OnBus.{program_on_bus, performed}
+use Rattle.qspi.specs.Frame.{first_of}
+use Rattle.spi_flash.specs.Prog.{Prog, ask}
+use Rattle.spi_flash.specs.Path.{Bounded}
+use Rattle.spi_flash.specs.Machine.{out, machine}
+use Rattle.spi_flash.specs.Run.{Event, Given, act, ended, failed, refused, Entry, System, goes_on, Fitting, Answer, at_once, opening, call_of}
+use Rattle.spi_flash.specs.Seen.{Did, told_then, told, gives_of, replies_of, accepted, events_of, SameData, Undisturbed}
+use Rattle.spi_flash.specs.OnBus.{BusProg, program_on_bus, performed}
 use Rattle.spi_flash.specs.declared.loan.Takes.{Takes}
-use Rattle.spi_flash.proofs.Performs.{performs}
+use Rattle.spi_flash.proofs.Dataless.{data_uses}
+use Rattle.spi_flash.proofs.Performs.{Looks, looks_then, looking, looking-whole, looking-given, performs}
+use Rattle.spi_flash.proofs.Heeded.{Closed, closed-whole, fitting-told, Heeds, heeds}
 use Rattle.flash_runs.specs.Driver.{Left, Sort, constructs, tells, releases, uses, Driver, sort_at, takes_at, program_at, steps_at}
-use Rattle.flash_runs.specs.SameAsRust.{Ready, Regular, rust_call, driver_of, left_by, driver_after, Turn, turn_steps, turn_after, Orderly, session, holding, rust_turn, rust_session, SameAsRust}
+use Rattle.flash_runs.specs.SameAsRust.{LendsData, Ready, Steady, Regular, accepted_at, rust_call, driver_of, left_then, left_by, driver_after, Turn, turn_steps, turn_after, EachTurn, each_turn, Orderly, session, accepted_turn, turn_gives, holding, rust_turn, rust_session, SameAsRust}
 use Rattle.flash_runs.proofs.General.{Opening, constructing, telling, releasing, working, Parts, Flash, decide_next}
-use Rattle.flash_runs.proofs.Supplies.{OpensAs, Known}
+use Rattle.flash_runs.proofs.Supplies.{LooksAs, OpensAs, Known}
 use Rattle.flash_runs.proofs.Runs.{same-call}
-use Rattle.flash_runs.proofs.Views.{shape, driven, Opens, Answered, gives, turns, usable, opens-call}
+use Rattle.flash_runs.proofs.Views.{shape, driven, Opens, Answered, gives, turns, usable, on_machine, opens-call}
 use Rattle.flash_runs.proofs.LeftBehind.{left}
 
 no_tells : {S : Type 0} {s : S} → ◌≡◌ {A = Sort S} tells (constructs s) → ⊥
@@ -28,6 +35,33 @@ no-releases h = let z : ◌≡◌ {A = ℕ} 0 1 = cc in omega arith
 
 no-uses : {S : Type 0} {s : S} {takes : Takes} → ◌≡◌ {A = Sort S} (uses takes) (constructs s) → ⊥
 no-uses h = let z : ◌≡◌ {A = ℕ} 0 1 = cc in omega arith
+
+-- ---- what is left is told by what is given, refused steps or not
+
+module _ {S A : Type 0} where
+  abbrev left_in : List (Given (Left S A)) → Option (Left S A)
+  left_in [] = none
+  left_in (g ∷ gs) = left_then g (left_in gs)
+
+  given-left : (xs : List (Did (Left S A))) → left_in (gives_of xs) ≡ left_by xs
+  given-left [] = refl
+  given-left (x ∷ xs) = ap (left_then x.given) (given-left xs)
+
+accepted-first : {C S A : Type 0} (event : Event C) (g : Given (Left S A)) (l : Lent) (xs : List (Entry C (Left S A))) → left_by (told (accepted xs)) ≡ left_by (told xs) →
+    let x : Entry C (Left S A) = record { event = event; given = g; left = l } in left_by (told (accepted (x ∷ xs))) ≡ left_by (told (x ∷ xs))
+unfolding told accepted
+accepted-first event (act shown) l xs h = h
+accepted-first event (ended a) l xs h = refl
+accepted-first event (failed e) l xs h = refl
+accepted-first event (refused e) l xs h = h
+
+accepted-left : {C S A : Type 0} (xs : List (Entry C (Left S A))) → left_by (told (accepted xs)) ≡ left_by (told xs)
+unfolding told accepted
+accepted-left [] = refl
+accepted-left (x ∷ xs) = accepted-first x.event x.given x.left xs (accepted-left xs)
+
+pub left-as : {C S A : Type 0} (xs : List (Entry C (Left S A))) (ds : List (Did (Left S A))) → gives_of (told (accepted xs)) ≡ gives_of ds → left_by (told xs) ≡ left_by ds
+left-as xs ds h = sym (accepted-left xs) ∙ sym (given-left (told (accepted xs))) ∙ ap left_in h ∙ given-left ds
 
 module _ {F C S A : Type 0} {driver : Driver F C S A} (known : Known driver) where
   abbrev P : Type 0
@@ -45,30 +79,110 @@ module _ {F C S A : Type 0} {driver : Driver F C S A} (known : Known driver) whe
   rust-is setup c l es p e = ap (λ x. performed (program_on_bus l.given x) (replies_of es) l.buffer) e
 
   module _ (flash : F) (c : C) (l : Lent) (es : List (Event C)) where
-    abbrev Same : Type 0
-    Same = told (steps_at driver flash c l es) ≡ rust_call driver (driver.setup flash) c l es
+    abbrev setup : S
+    setup = driver.setup flash
 
-    answered-same : Answered known (shape known flash) c l → Same
+    abbrev steps : List (Entry C (Left S A))
+    steps = steps_at driver flash c l es
+
+    abbrev program : Prog (Left S A)
+    program = program_at driver setup c l
+
+    abbrev heeded : List (Entry C (Left S A)) → List Answer
+    heeded xs = replies_of (events_of (accepted xs))
+
+    -- what these steps come to, refused ones passed over, is what the program does
+    abbrev Does : Bool → Prog (Left S A) → List (Entry C (Left S A)) → Type 0
+    Does whole p xs = looking whole (told (accepted xs)) ≡ looking whole (performed (program_on_bus l.given p) (heeded xs) l.buffer)
+
+    -- ---- a call that ends at once
+
+    answered-does : (whole : Bool) → Answered known (shape known flash) c l → Does whole program steps
+    unfolding told call_of accepted program_on_bus performed
+    answered-does whole (gives a u n p e k) =
+        subst (Does whole program) (sym (same-call driver parts known.is flash c l es))
+        (subst (λ m. Does whole program (opening c l m ∷ goes_on driving m.flash es)) (sym e) (rw p refl))
+    answered-does whole (turns x takes p e k) =
+        subst (Does whole program) (sym (same-call driver parts known.is flash c l es))
+        (subst (λ m. Does whole program (opening c l m ∷ goes_on driving m.flash es)) (sym e) (rw p refl))
+
+    answered-same : Answered known (shape known flash) c l → told steps ≡ rust_call driver setup c l es
     unfolding told call_of program_on_bus performed
     answered-same (gives a u n p e k) =
         ap told (same-call driver parts known.is flash c l es)
-        ∙ ap (λ m. told_then (at_once m.given) m.left.buffer (told (goes_on driving m.flash es))) e ∙ sym (rust-is (driver.setup flash) c l es _ p)
+        ∙ ap (λ m. told_then (at_once m.given) m.left.buffer (told (goes_on driving m.flash es))) e ∙ sym (rust-is setup c l es _ p)
     answered-same (turns x takes p e k) =
         ap told (same-call driver parts known.is flash c l es)
-        ∙ ap (λ m. told_then (at_once m.given) m.left.buffer (told (goes_on driving m.flash es))) e ∙ sym (rust-is (driver.setup flash) c l es _ p)
+        ∙ ap (λ m. told_then (at_once m.given) m.left.buffer (told (goes_on driving m.flash es))) e ∙ sym (rust-is setup c l es _ p)
 
-    opened-same : Opens known (shape known flash) c l → Regular driver flash c l es → Same
-    unfolding told Fitting SameData Undisturbed
+    -- ---- a call that goes to the bus
+
+    module _ (o : Opens known (shape known flash) c l) where
+      abbrev taking : Takes
+      taking = takes_at driver c l
+
+      abbrev entries : List (Entry C (Left S A))
+      entries = goes_on (machine (decide_next parts) C) (out taking o.at (first_of o.first)) es
+
+      abbrev begun : Prog (Left S A)
+      begun = ask o.first (known.meaning o.at)
+
+      -- the same data are lent, or the program does not look at them
+      lends : LooksAs driver setup c (length l.buffer) (length l.given) taking → LendsData taking l.given (on_machine known o es) → SameData l.given entries ⊎ Bounded data_uses 0 begun
+      unfolding SameData
+      lends = at taking
+        where
+          at : (k : Takes) → LooksAs driver setup c (length l.buffer) (length l.given) k → LendsData k l.given (on_machine known o es) → SameData l.given entries ⊎ Bounded data_uses 0 begun
+          at Takes.Nothing b h = inr (subst (Bounded data_uses 0) o.program b)
+          at (Takes.Buffer n) b h = inr (subst (Bounded data_uses 0) o.program b)
+          at (Takes.Data n) b h = inl h.1
+
+      machine-does : (whole : Bool) → LendsData taking l.given (on_machine known o es) → Looks whole (Undisturbed l.buffer (on_machine known o es)) → Does whole begun (on_machine known o es)
+      unfolding told accepted SameData Undisturbed
+      machine-does whole same still =
+          performs C known.Valid (decide_next parts) taking known.meaning known.supplies.simulates l.given whole o.first o.at es l o.valid refl
+          (lends (known.supplies.dataless setup c (length l.buffer) (length l.given) o.bounds) same) (looks_then whole (λ h. h.1) still)
+
+      opened-does : (whole : Bool) → LendsData taking l.given steps → Looks whole (Undisturbed l.buffer steps) → Does whole program steps
+      opened-does whole same still =
+          let e = opens-call known flash o es in
+          subst (Does whole program) (sym e)
+          (subst (λ p. Does whole p (on_machine known o es)) (sym o.program)
+          (machine-does whole (subst (LendsData taking l.given) e same) (subst (λ xs. Looks whole (Undisturbed l.buffer xs)) e still)))
+
+      -- the replies that were taken are all that matter
+      enough : (xs : List (Entry C (Left S A))) → Heeds (decide_next parts) taking es xs → (p : BusProg (Left S A)) → Closed (told xs) ≡ Closed (performed p (heeded xs) l.buffer) →
+          performed p (heeded xs) l.buffer ≡ performed p (replies_of es) l.buffer
+      enough xs (inl e) p h = ap (λ rs. performed p rs l.buffer) e
+      enough xs (inr c) p h = sym (ap (λ rs. performed p rs l.buffer) (sym c.1.whole) ∙ closed-whole p (heeded xs) c.1.rest l.buffer (subst (λ x. x) h c.0))
+
+    does : (whole : Bool) → Steady driver flash c l es → Looks whole (Undisturbed l.buffer steps) → Does whole program steps
+    does whole h still = ⊎_elim (answered-does whole) (λ o. opened-does o whole h.same_data still) (usable known flash c l h.usable)
+
+    -- every call
+    gives-same : Steady driver flash c l es → gives_of (told (accepted steps)) ≡ gives_of (rust_call driver setup c l (accepted_at driver flash c l es))
+    gives-same h = sym (looking-given _) ∙ ap gives_of (does false h tt) ∙ looking-given _
+
+    delivers : Steady driver flash c l es → Undisturbed l.buffer steps → told (accepted steps) ≡ rust_call driver setup c l (accepted_at driver flash c l es)
+    delivers h still = sym (looking-whole _) ∙ does true h still ∙ looking-whole _
+
+    steady : Regular driver flash c l es → Steady driver flash c l es
+    steady h = record { usable = h.usable; same_data = at (takes_at driver c l) }
+      where
+        at : (k : Takes) → LendsData k l.given steps
+        at Takes.Nothing = tt
+        at (Takes.Buffer n) = tt
+        at (Takes.Data n) = h.same_data
+
+    opened-same : Opens known (shape known flash) c l → Regular driver flash c l es → told steps ≡ rust_call driver setup c l es
+    unfolding told Fitting accepted
     opened-same o h =
         let e = opens-call known flash o es in
-        let fit = subst Fitting e h.fitting in
-        let same = subst (SameData l.given) e h.same_data in
-        let still = subst (Undisturbed l.buffer) e h.undisturbed in
-        ap told e
-        ∙ performs C known.Valid (decide_next parts) (takes_at driver c l) known.meaning known.supplies.simulates l.given o.first o.at es l o.valid refl fit same.1 still.1
-        ∙ sym (rust-is (driver.setup flash) c l es _ o.program)
+        let one = sym (fitting-told steps h.fitting) ∙ delivers (steady h) h.undisturbed in
+        let all = heeds (decide_next parts) (takes_at driver c l) o.at (first_of o.first) es (subst Fitting e h.fitting) in
+        one ∙ enough o steps (subst (Heeds (decide_next parts) (takes_at driver c l) es) (sym e) all) (program_on_bus l.given program) (ap Closed one)
 
-    same : Regular driver flash c l es → Same
+    same : Regular driver flash c l es → told steps ≡ rust_call driver setup c l es
     same h = ⊎_elim answered-same (λ o. opened-same o h) (usable known flash c l h.usable)
 
   -- ---- any sequence of calls
@@ -99,7 +213,7 @@ module _ {F C S A : Type 0} {driver : Driver F C S A} (known : Known driver) whe
       ∙ rust-is (driver.setup flash) x.call x.lent x.events _ (held (sort_at driver x.call x.lent) flash x.call x.lent refl h.usable.ready)
 
   sessions : (flash : F) (turns : List (Turn C)) → Orderly driver flash turns → session driver flash turns ≡ rust_session driver (driver_of driver flash) turns
-  unfolding Orderly session rust_session
+  unfolding EachTurn each_turn rust_session
   sessions flash [] h = refl
   sessions flash (x ∷ xs) h =
       let head = turn-same flash x h.0 in
@@ -109,5 +223,22 @@ module _ {F C S A : Type 0} {driver : Driver F C S A} (known : Known driver) whe
       (left known flash x.call x.lent x.events h.0.usable
       ∙ ap (λ steps. driver_after (sort_at driver x.call x.lent) (driver_of driver flash) (left_by steps)) head))
 
+  pub turn-gives : (flash : F) (x : Turn C) → Steady driver flash x.call x.lent x.events → turn_gives driver flash x ≡ gives_of (rust_turn driver (driver_of driver flash) (accepted_turn driver flash x))
+  turn-gives flash x h =
+      gives-same flash x.call x.lent x.events h
+      ∙ ap gives_of (rust-is (driver.setup flash) x.call x.lent (accepted_at driver flash x.call x.lent x.events) _ (held (sort_at driver x.call x.lent) flash x.call x.lent refl h.usable.ready))
+
+  steady-sessions : (flash : F) (turns : List (Turn C)) → EachTurn driver (λ flash x. Steady driver flash x.call x.lent x.events) flash turns →
+      each_turn driver (turn_gives driver) flash turns ≡ map gives_of (rust_session driver (driver_of driver flash) (each_turn driver (accepted_turn driver) flash turns))
+  unfolding EachTurn each_turn rust_session
+  steady-sessions flash [] h = refl
+  steady-sessions flash (x ∷ xs) h =
+      let head = turn-gives flash x h.0 in
+      ap₂ (λ a b. a ∷ b) head
+      (steady-sessions (turn_after driver flash x) xs h.1
+      ∙ ap (λ before. map gives_of (rust_session driver before (each_turn driver (accepted_turn driver) (turn_after driver flash x) xs)))
+      (left known flash x.call x.lent x.events h.0.usable
+      ∙ ap (driver_after (sort_at driver x.call x.lent) (driver_of driver flash)) (left-as (turn_steps driver flash x) _ head)))
+
   pub same_as_rust : SameAsRust driver
-  same_as_rust = record { same = same; left = left known; sessions = sessions }
+  same_as_rust = record { gives = gives-same; delivers = delivers; same = same; left = left known; sessions = sessions; steady_sessions = steady-sessions }

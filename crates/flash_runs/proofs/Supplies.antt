@@ -18,6 +18,7 @@ use Rattle.spi_flash.specs.Run.{Moved}
 use Rattle.spi_flash.specs.Seen.{select_after}
 use Rattle.spi_flash.specs.declared.loan.Takes.{Takes}
 use Rattle.spi_flash.proofs.Unread.{buffer_reads}
+use Rattle.spi_flash.proofs.Dataless.{data_uses}
 use Rattle.flash_runs.specs.Begins.{SameTaken}
 use Rattle.flash_runs.specs.Driver.{Left, leaving, Sort, constructs, tells, releases, uses, takes_of, works_on, Driver, takes_at}
 pub use Rattle.flash_runs.specs.Shams.{Asks}
@@ -82,6 +83,12 @@ module _ {F C S A : Type 0} (driver : Driver F C S A) (s : S) (c : C) (b d : ℕ
   LendsAs (Takes.Buffer n) = (n ≡ b) × Fills driver.reads b 0 (driver.program s c b d)
   LendsAs (Takes.Data n) = Bounded buffer_reads 0 (driver.program s c b d)
 
+  -- a call that takes no data does not look at them
+  abbrev pub LooksAs : Takes → Type 0
+  LooksAs Takes.Nothing = Bounded data_uses 0 (driver.program s c b d)
+  LooksAs (Takes.Buffer n) = Bounded data_uses 0 (driver.program s c b d)
+  LooksAs (Takes.Data n) = Unit {0}
+
 -- on a driver that holds s, with a buffer of b bytes and data of d; Valid where a call can stand, Built in which phases one that is
 -- no construction, meaning what is left of its program
 module _ {F C S P A : Type 0} (driver : Driver F C S A) (parts : Parts S P A C) (Valid : Place S P → Type 0) (Built : P → Type 0) (meaning : Place S P → ℕ → Prog (Left S A)) where
@@ -135,6 +142,7 @@ module _ {F C S P A : Type 0} (driver : Driver F C S A) (parts : Parts S P A C) 
     pub ends_well : (s : S) (c : C) (b : ℕ) (given : List ℕ) → Bounds driver s c b (length given) → AllBytes given → Asks (driver.program s c b (length given)) →
         driver.can_end s c b (length given) ≡ true → (n : ℕ) × (left : Left S A) × Ends given delays n left (driver.program s c b (length given))
     pub lent : (s : S) (c : C) (b d : ℕ) → Bounds driver s c b d → LendsAs driver s c b d (takes_of (driver.sort c b d))
+    pub dataless : (s : S) (c : C) (b d : ℕ) → Bounds driver s c b d → LooksAs driver s c b d (takes_of (driver.sort c b d))
 
 -- all that is known of a driver
 pub record Known {F C S A : Type 0} (driver : Driver F C S A) : Type 1 where

@@ -297,7 +297,7 @@ module _ {F C S A : Type 0} {driver : Driver F C S A} (known : Known driver) whe
   unfolding run_of Settling.settled
   opens-steps {flash} {c} {l} o es = ap (λ m. begun_with driven m.given c l m es) o.is
 
-  abbrev on_machine : {flash : Flash S P} {c : C} {l : Lent} → Opens flash c l → List (Event C) → List (Run.Entry C (Left S A))
+  abbrev pub on_machine : {flash : Flash S P} {c : C} {l : Lent} → Opens flash c l → List (Event C) → List (Run.Entry C (Left S A))
   on_machine {c = c} {l} o es =
       entry (call c l) (settle (takes_at driver c l) (more o.first o.at) l) ∷
       goes_on (machine (decide_next parts) C) (out (takes_at driver c l) o.at (first_of o.first)) es

@@ -1,12 +1,14 @@
--- The weights of the transfers: their delays, their actions, and what is read into the caller's buffer.
+-- The weights of the transfers: their delays, their actions, what is read into the caller's buffer, and the looks at the caller's data.
 use Prim.Native.Nat.{ℕ, ◌≤◌}
 use native.Mathlib.Omega.{arith}
 use Rattle.qspi.specs.declared.command.Command.{Command}
 use Rattle.qspi.specs.declared.transfer.Body.{Body}
+use Rattle.qspi.specs.declared.transfer.Payload.{Payload}
 use Rattle.qspi.specs.declared.transfer.Sink.{Sink}
 use Rattle.qspi.specs.declared.transfer.Transfer.{Transfer}
 use Rattle.spi_flash.specs.Path.{delays, actions, Bounded}
 use Rattle.spi_flash.specs.Prog.{Prog}
+use Rattle.spi_flash.proofs.Dataless.{payload_data, sink_data, data_uses}
 use Rattle.spi_flash.proofs.Unread.{buffer_reads}
 use Rattle.flash_runs.specs.Weight.{Figures, action_figures}
 
@@ -15,14 +17,20 @@ module _ {O : Type 0} where
   abbrev pub sunk : Figures O → Sink → ℕ
   sunk x Sink.Number = x.moved
   sunk x (Sink.Buffer at) = x.fill
-  sunk x (Sink.Compare from) = x.moved
+  sunk x (Sink.Compare from) = x.given
+
+  -- so much for a write, by where its bytes come from
+  abbrev pub paid : Figures O → Payload → ℕ
+  paid x (Payload.Data from len) = x.given
+  paid x (Payload.Filler n) = x.moved
+  paid x Payload.Marker = x.moved
 
   abbrev pub carried : Figures O → Body → ℕ
   carried x Body.None = x.send
   carried x (Body.Read n sink) = sunk x sink
-  carried x (Body.Write payload) = x.moved
+  carried x (Body.Write payload) = paid x payload
   carried x (Body.QuadRead tclqv margin n sink) = sunk x sink
-  carried x (Body.QuadWrite payload) = x.moved
+  carried x (Body.QuadWrite payload) = paid x payload
 
   -- a weight of the transfers that these figures bound, with the program of a wait
   pub record Weighs {A : Type 0} (w : Transfer → ℕ) (x : Figures O) (wait : O → Prog A) : Type 0 where
@@ -33,12 +41,17 @@ module _ {O : Type 0} where
   -- ---- the delays are those of the waits
 
   abbrev pub delay_figures : (O → ℕ) → Figures O
-  delay_figures waits = record { raise = 0; send = 0; moved = 0; fill = 0; waits = waits }
+  delay_figures waits = record { raise = 0; send = 0; moved = 0; given = 0; fill = 0; waits = waits }
 
   -- ---- only what is read for the caller goes into the caller's buffer
 
   abbrev pub read_figures : Figures O
-  read_figures = record { raise = 0; send = 0; moved = 0; fill = 1; waits = λ operation. 0 }
+  read_figures = record { raise = 0; send = 0; moved = 0; given = 0; fill = 1; waits = λ operation. 0 }
+
+  -- ---- only what is sent for the caller, or compared, looks at the caller's data
+
+  abbrev pub data_figures : Figures O
+  data_figures = record { raise = 0; send = 0; moved = 0; given = 1; fill = 0; waits = λ operation. 0 }
 
   module _ {A : Type 0} (wait : O → Prog A) where
     pub delays-weigh : (waits : O → ℕ) → ((operation : O) → Bounded delays (waits operation) (wait operation)) → Weighs delays (delay_figures waits) wait
@@ -52,12 +65,17 @@ module _ {O : Type 0} where
         four (Sink.Buffer at) = omega arith
         four (Sink.Compare from) = omega arith
 
+        four-paid : (payload : Payload) → 4 ≤ paid (action_figures waits) payload
+        four-paid (Payload.Data from len) = omega arith
+        four-paid (Payload.Filler n) = omega arith
+        four-paid Payload.Marker = omega arith
+
         framed : (c : Command) (body : Body) → actions (Transfer.Framed c body) ≤ carried (action_figures waits) body
         framed c Body.None = omega arith
         framed c (Body.Read n sink) = four sink
-        framed c (Body.Write payload) = omega arith
+        framed c (Body.Write payload) = omega (arith, four-paid payload)
         framed c (Body.QuadRead tclqv margin n sink) = omega (arith, four sink)
-        framed c (Body.QuadWrite payload) = omega arith
+        framed c (Body.QuadWrite payload) = omega (arith, four-paid payload)
 
     pub reads-weigh : ((operation : O) → Bounded buffer_reads 0 (wait operation)) → Weighs buffer_reads read_figures wait
     reads-weigh h = record { raised = omega arith; framed = framed; waited = h }
@@ -73,3 +91,23 @@ module _ {O : Type 0} where
         framed c (Body.Write payload) = omega arith
         framed c (Body.QuadRead tclqv margin n sink) = sinks c n sink
         framed c (Body.QuadWrite payload) = omega arith
+
+    pub data-weigh : ((operation : O) → Bounded data_uses 0 (wait operation)) → Weighs data_uses data_figures wait
+    data-weigh h = record { raised = omega arith; framed = framed; waited = h }
+      where
+        sinks : (sink : Sink) → sink_data sink ≤ sunk data_figures sink
+        sinks Sink.Number = omega arith
+        sinks (Sink.Buffer at) = omega arith
+        sinks (Sink.Compare from) = omega arith
+
+        payloads : (payload : Payload) → payload_data payload ≤ paid data_figures payload
+        payloads (Payload.Data from len) = omega arith
+        payloads (Payload.Filler n) = omega arith
+        payloads Payload.Marker = omega arith
+
+        framed : (c : Command) (body : Body) → data_uses (Transfer.Framed c body) ≤ carried data_figures body
+        framed c Body.None = omega arith
+        framed c (Body.Read n sink) = sinks sink
+        framed c (Body.Write payload) = payloads payload
+        framed c (Body.QuadRead tclqv margin n sink) = sinks sink
+        framed c (Body.QuadWrite payload) = payloads payload

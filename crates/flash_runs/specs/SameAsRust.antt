@@ -1,13 +1,15 @@
--- Demand 2: every action, result and delivered byte is that of the program that the driver follows, over any sequence of calls.
-use Rattle.std.specs.Prelude.{◌≤◌, true, false, ◌≡◌, List, [], ◌∷◌, length}
+-- Every action, result and delivered byte is that of the program that the driver follows, over any sequence of calls
+-- (docs/SPECIFICATION.md, "Same as the Rust").
+use Rattle.std.specs.Prelude.{ℕ, ◌≤◌, true, false, ◌≡◌, List, [], ◌∷◌, map, length}
 use Rattle.std.proofs.Math.Option.{Option, none, some}
 use Rattle.qspi.specs.Choice.{pick}
 use Rattle.qspi.specs.Command.{scratch_least}
 use Rattle.spi_flash.specs.Loan.{Lent}
 use Rattle.spi_flash.specs.Run.{Event, Entry, Given, act, ended, failed, refused, Fitting}
-use Rattle.spi_flash.specs.Seen.{Did, told, replies_of, SameData, Undisturbed}
+use Rattle.spi_flash.specs.Seen.{Did, told, gives_of, replies_of, accepted, events_of, SameData, Undisturbed}
+use Rattle.spi_flash.specs.declared.loan.Takes.{Takes}
 use Rattle.spi_flash.specs.OnBus.{program_on_bus, performed}
-use Rattle.flash_runs.specs.Driver.{Left, Sort, constructs, tells, releases, uses, Driver, sort_at, program_at, bounded_at, steps_at, flash_after}
+use Rattle.flash_runs.specs.Driver.{Left, Sort, constructs, tells, releases, uses, Driver, sort_at, takes_at, program_at, bounded_at, steps_at, flash_after}
 
 -- ---- what is left behind
 
@@ -43,6 +45,12 @@ pub record Turn (C : Type 0) : Type 0 where
   pub lent : Lent
   pub events : List (Event C)
 
+-- of a call that takes data, every step is lent these
+abbrev pub LendsData : {C A : Type 0} → Takes → List ℕ → List (Entry C A) → Type 0
+LendsData Takes.Nothing given steps = Unit {0}
+LendsData (Takes.Buffer n) given steps = Unit {0}
+LendsData (Takes.Data n) given steps = SameData given steps
+
 module _ {F C S A : Type 0} (driver : Driver F C S A) where
   -- ---- one call
 
@@ -53,19 +61,27 @@ module _ {F C S A : Type 0} (driver : Driver F C S A) where
   Ready releases flash l = driver.built flash ≡ true
   Ready (uses takes) flash l = (driver.built flash ≡ true) × (scratch_least ≤ length l.scratch)
 
+  -- and what it works on is inside the bounds (docs/SPECIFICATION.md, "Geometry")
   pub record Usable (flash : F) (call : C) (l : Lent) : Type 0 where
     pub idle : driver.system.running flash ≡ false
     pub ready : Ready (sort_at driver call l) flash l
-    -- "For geometries inside document 01's bounds"
     pub bounds : bounded_at driver flash call l ≡ true
 
-  -- "a bus that delivers nothing when it fails" and fitting replies, "and the same data lent throughout a call", into a buffer where
-  -- nobody else writes
+  -- with the same data lent throughout, where it takes data; replies may be refused, and other calls begun meanwhile
+  pub record Steady (flash : F) (call : C) (l : Lent) (es : List (Event C)) : Type 0 where
+    pub usable : Usable flash call l
+    pub same_data : LendsData (takes_at driver call l) l.given (steps_at driver flash call l es)
+
+  -- and where no event up to the call's end is refused, and nobody else writes into the buffer
   pub record Regular (flash : F) (call : C) (l : Lent) (es : List (Event C)) : Type 0 where
     pub usable : Usable flash call l
     pub fitting : Fitting (steps_at driver flash call l es)
     pub same_data : SameData l.given (steps_at driver flash call l es)
     pub undisturbed : Undisturbed l.buffer (steps_at driver flash call l es)
+
+  -- the events that were not refused
+  abbrev pub accepted_at : F → C → Lent → List (Event C) → List (Event C)
+  accepted_at flash call l es = events_of (accepted (steps_at driver flash call l es))
 
   -- what the program of the call does on the same replies: each action with its bytes, then its result, and the buffer after each
   abbrev pub rust_call : S → C → Lent → List (Event C) → List (Did (Left S A))
@@ -74,7 +90,7 @@ module _ {F C S A : Type 0} (driver : Driver F C S A) where
   abbrev pub driver_of : F → Option S
   driver_of flash = pick (driver.built flash) (some (driver.setup flash)) none
 
-  -- ---- any sequence of calls
+  -- ---- any sequence of calls, each on the driver as the one before left it
 
   abbrev pub turn_steps : F → Turn C → List (Entry C (Left S A))
   turn_steps flash x = steps_at driver flash x.call x.lent x.events
@@ -82,14 +98,27 @@ module _ {F C S A : Type 0} (driver : Driver F C S A) where
   abbrev pub turn_after : F → Turn C → F
   turn_after flash x = flash_after driver flash x.call x.lent x.events
 
-  -- each call finds the driver at rest, as the one before left it
-  unfoldable pub Orderly : F → List (Turn C) → Type 0
-  Orderly flash [] = Unit {0}
-  Orderly flash (x ∷ xs) = Regular flash x.call x.lent x.events × Orderly (turn_after flash x) xs
+  unfoldable pub EachTurn : (F → Turn C → Type 0) → F → List (Turn C) → Type 0
+  EachTurn P flash [] = Unit {0}
+  EachTurn P flash (x ∷ xs) = P flash x × EachTurn P (turn_after flash x) xs
 
-  unfoldable pub session : F → List (Turn C) → List (List (Did (Left S A)))
-  session flash [] = []
-  session flash (x ∷ xs) = told (turn_steps flash x) ∷ session (turn_after flash x) xs
+  unfoldable pub each_turn : {B : Type 0} → (F → Turn C → B) → F → List (Turn C) → List B
+  each_turn f flash [] = []
+  each_turn f flash (x ∷ xs) = f flash x ∷ each_turn f (turn_after flash x) xs
+
+  abbrev pub Orderly : F → List (Turn C) → Type 0
+  Orderly flash turns = EachTurn (λ flash x. Regular flash x.call x.lent x.events) flash turns
+
+  abbrev pub session : F → List (Turn C) → List (List (Did (Left S A)))
+  session flash turns = each_turn (λ flash x. told (turn_steps flash x)) flash turns
+
+  -- with the events alone that were not refused
+  abbrev pub accepted_turn : F → Turn C → Turn C
+  accepted_turn flash x = record { call = x.call; lent = x.lent; events = accepted_at flash x.call x.lent x.events }
+
+  -- what is given, refusals passed over
+  abbrev pub turn_gives : F → Turn C → List (Given (Left S A))
+  turn_gives flash x = gives_of (told (accepted (turn_steps flash x)))
 
   abbrev pub rust_turn : Option S → Turn C → List (Did (Left S A))
   rust_turn before x = rust_call (holding driver.blank before) x.call x.lent x.events
@@ -102,7 +131,13 @@ module _ {F C S A : Type 0} (driver : Driver F C S A) where
   -- ---- the statement
 
   pub record SameAsRust : Type 0 where
-    -- "every action, result and delivered byte equals the Rust's on the same replies"
+    -- every action with its bytes, and every result, on the replies that were not refused, whoever writes into the buffer
+    pub gives : (flash : F) (call : C) (l : Lent) (es : List (Event C)) → Steady flash call l es →
+        gives_of (told (accepted (steps_at driver flash call l es))) ≡ gives_of (rust_call (driver.setup flash) call l (accepted_at flash call l es))
+    -- and every delivered byte, where nobody else writes there: the whole buffer after each step
+    pub delivers : (flash : F) (call : C) (l : Lent) (es : List (Event C)) → Steady flash call l es → Undisturbed l.buffer (steps_at driver flash call l es) →
+        told (accepted (steps_at driver flash call l es)) ≡ rust_call (driver.setup flash) call l (accepted_at flash call l es)
+    -- where no reply is refused these are all the replies
     pub same : (flash : F) (call : C) (l : Lent) (es : List (Event C)) → Regular flash call l es →
         told (steps_at driver flash call l es) ≡ rust_call (driver.setup flash) call l es
     -- and so is the driver left behind, whatever the events
@@ -110,3 +145,6 @@ module _ {F C S A : Type 0} (driver : Driver F C S A) where
         driver_of (flash_after driver flash call l es) ≡ driver_after (sort_at driver call l) (driver_of flash) (left_by (told (steps_at driver flash call l es)))
     -- so that the equality carries over any sequence of calls
     pub sessions : (flash : F) (turns : List (Turn C)) → Orderly flash turns → session flash turns ≡ rust_session (driver_of flash) turns
+    -- refused events and disturbed buffers among them
+    pub steady_sessions : (flash : F) (turns : List (Turn C)) → EachTurn (λ flash x. Steady flash x.call x.lent x.events) flash turns →
+        each_turn turn_gives flash turns ≡ map gives_of (rust_session (driver_of flash) (each_turn accepted_turn flash turns))

@@ -83,7 +83,7 @@ small : (setting : Option NandGeometry) (id : NandJedecId) → page_taken settin
 small None id h = le-leb _ MAX-VERIFY-PAGE-SIZE (geometries-hold.known id).page
 small (Some own) id h = h
 
-large : (setting : Option NandGeometry) (id : NandJedecId) → page_taken setting ≡ false → leb (resolved setting id).page_size MAX-VERIFY-PAGE-SIZE ≡ false
+pub large : (setting : Option NandGeometry) (id : NandJedecId) → page_taken setting ≡ false → leb (resolved setting id).page_size MAX-VERIFY-PAGE-SIZE ≡ false
 large None id h = absurd (true≢false h)
 large (Some own) id h = h
 

@@ -23,7 +23,7 @@ use Rattle.nand_runs.proofs.Meaning.{meaning}
 use Rattle.nand_runs.proofs.Simulation.{simulates}
 use Rattle.nand_runs.proofs.Opens.{opens, alike}
 use Rattle.nand_runs.proofs.Is.{nand-is}
-use Rattle.nand_runs.proofs.Lent.{lent}
+use Rattle.nand_runs.proofs.Lent.{lent, dataless}
 
 -- ---- what a call works on is what its program does: a construction does not look at what was there before
 
@@ -112,6 +112,7 @@ supplies = record {
   reached = λ s c b given h small asks. reached s c b given h small asks;
   ends_well = λ s c b given h small asks can. ends-well s c b given h small asks can;
   lent = lent;
+  dataless = dataless;
 }
 
 abbrev pub known : Known nand_driver

@@ -13,12 +13,13 @@ use Rattle.spi_flash.specs.Path.{Bounded}
 use Rattle.spi_flash.specs.Prog.{Prog, ret, ◌>>=◌, ◌>>◌, refuse, transfer}
 use Rattle.spi_flash.specs.declared.error.FlashError.{FlashError}
 use Rattle.spi_flash.proofs.Laws.{bind_assoc, bounded-more, answered}
-use Rattle.spi_flash.proofs.Unread.{buffer_reads, unread-delayed}
+use Rattle.spi_flash.proofs.Dataless.{data_uses}
+use Rattle.spi_flash.proofs.Unread.{buffer_reads, none-delayed, unread-delayed}
 use Rattle.flash_runs.specs.Driver.{takes_of}
 use Rattle.flash_runs.proofs.Filling.{Fills}
 use Rattle.flash_runs.proofs.Quiet.{Quiet, quiet_bind, quiet_then, quiet-refuse, quiet-ret, quiet-transfer, quiet-wait, fills-after}
-use Rattle.flash_runs.proofs.Supplies.{Bounds, LendsAs}
-use Rattle.flash_runs.proofs.Weighing.{Weighs, read_figures, reads-weigh}
+use Rattle.flash_runs.proofs.Supplies.{Bounds, LendsAs, LooksAs}
+use Rattle.flash_runs.proofs.Weighing.{Weighs, read_figures, data_figures, reads-weigh, data-weigh}
 use Rattle.spi_nand.specs.Command.{get_feature_command}
 use Rattle.spi_nand.specs.Config.{in_bounds, page_count_of, single_config}
 use Rattle.spi_nand.specs.Opcode.{REG-STATUS, timings_of}
@@ -163,3 +164,42 @@ lent s (Call.EraseBlock block) b d h = unread s h (Call.EraseBlock block) b d (o
 lent s (Call.Read offset) b d h = (refl, fills-read s h offset b)
 lent s (Call.IsBadBlock block) b d h = unread s h (Call.IsBadBlock block) b d (omega arith)
 lent s (Call.MarkBadBlock block) b d h = unread s h (Call.MarkBadBlock block) b d (omega arith)
+
+-- ---- no call but load_program_data and write_page looks at the caller's data
+
+dataless-figures : Weighs data_uses data_figures wait-ready
+unfolding wait-ready
+dataless-figures = data-weigh wait-ready (λ operation. none-delayed data_uses (λ c. omega arith) (λ us. omega arith) (get_feature_command REG-STATUS) busy_value (timings_of operation))
+
+unlooked : (s : Setup) → in_bounds s.geometry ≡ true → (c : Call) (b d : ℕ) → weight_of data_figures s c b ≤ 0 → Bounded data_uses 0 (program_of s c b d)
+unlooked s h c b d none = bounded-more none (weighed dataless-figures s h c b d)
+
+pub dataless : (s : Setup) (c : Call) (b d : ℕ) → Bounds nand_driver s c b d → LooksAs nand_driver s c b d (takes_of (sort_of c b d))
+unfolding sort_of rust_program weight_of
+dataless s Call.New b d h = answered _ (omega arith) (bounded-with-config dataless-figures single_config)
+dataless s (Call.WithConfig config) b d h = bounded-more (omega arith) (weighed-construction dataless-figures s config b d)
+dataless s Call.Info b d h = unlooked s h Call.Info b d (omega arith)
+dataless s Call.Config b d h = unlooked s h Call.Config b d (omega arith)
+dataless s Call.Geometry b d h = unlooked s h Call.Geometry b d (omega arith)
+dataless s Call.Free b d h = unlooked s h Call.Free b d (omega arith)
+dataless s Call.DisableQuad b d h = unlooked s h Call.DisableQuad b d (omega arith)
+dataless s (Call.WriteRegister register value) b d h = unlooked s h (Call.WriteRegister register value) b d (omega arith)
+dataless s Call.WriteEnable b d h = unlooked s h Call.WriteEnable b d (omega arith)
+dataless s Call.ReadStatus b d h = unlooked s h Call.ReadStatus b d (omega arith)
+dataless s Call.ReadConfiguration b d h = unlooked s h Call.ReadConfiguration b d (omega arith)
+dataless s Call.ReadProtection b d h = unlooked s h Call.ReadProtection b d (omega arith)
+dataless s Call.Reset b d h = unlooked s h Call.Reset b d (omega arith)
+dataless s Call.JedecId b d h = unlooked s h Call.JedecId b d (omega arith)
+dataless s Call.ResetAndIdentify b d h = unlooked s h Call.ResetAndIdentify b d (omega arith)
+dataless s Call.EnsureConfiguration b d h = unlooked s h Call.EnsureConfiguration b d (omega arith)
+dataless s Call.Unprotect b d h = unlooked s h Call.Unprotect b d (omega arith)
+dataless s (Call.PageRead page) b d h = unlooked s h (Call.PageRead page) b d (omega arith)
+dataless s (Call.ReadCache column) b d h = unlooked s h (Call.ReadCache column) b d (omega arith)
+dataless s (Call.LoadProgramData column) b d h = tt
+dataless s (Call.ProgramExecute page) b d h = unlooked s h (Call.ProgramExecute page) b d (omega arith)
+dataless s (Call.ReadPage page) b d h = unlooked s h (Call.ReadPage page) b d (omega arith)
+dataless s (Call.WritePage page) b d h = tt
+dataless s (Call.EraseBlock block) b d h = unlooked s h (Call.EraseBlock block) b d (omega arith)
+dataless s (Call.Read offset) b d h = unlooked s h (Call.Read offset) b d (omega arith)
+dataless s (Call.IsBadBlock block) b d h = unlooked s h (Call.IsBadBlock block) b d (omega arith)
+dataless s (Call.MarkBadBlock block) b d h = unlooked s h (Call.MarkBadBlock block) b d (omega arith)

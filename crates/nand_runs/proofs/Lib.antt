@@ -8,6 +8,7 @@ pub mod Opens
 pub mod Is
 pub mod Lent
 pub mod Known
+pub mod AsRust
 pub mod Waits
 pub mod ReadLoop
 pub mod FillLoop

@@ -16,7 +16,7 @@ use Rattle.spi_flash.specs.Path.{Bounded}
 use Rattle.spi_flash.proofs.Laws.{bounded-more, bounded-ret, bounded-fail, bounded-bind, bounded-then, bounded-refuse, bounded-if, bounded-transfer, bounded-guard, answered, ended}
 use Rattle.spi_flash.proofs.Loops.{bounded-loop}
 use Rattle.flash_runs.specs.Weight.{Figures}
-use Rattle.flash_runs.proofs.Weighing.{sunk, Weighs}
+use Rattle.flash_runs.proofs.Weighing.{sunk, paid, Weighs}
 use Rattle.qspi.proofs.Cases.{by_cases}
 use Rattle.spi_nand.specs.Config.{single_config, in_bounds}
 use Rattle.spi_nand.specs.Status.{quad_enabled_of, same_configuration, is_unlocked}
@@ -38,7 +38,7 @@ module _ {w : Transfer → ℕ} {x : Figures Operation} (figures : Weighs w x wa
   taken None column n sink = figures.framed _ _
   taken (Some q) column n sink = figures.framed _ _
 
-  loaded : (q : Option NandQuadConfig) (column : ℕ) (payload : Payload) → w (cache_load_at q column payload) ≤ x.moved
+  loaded : (q : Option NandQuadConfig) (column : ℕ) (payload : Payload) → w (cache_load_at q column payload) ≤ paid x payload
   loaded None column payload = figures.framed _ _
   loaded (Some q) column payload = figures.framed _ _
 
@@ -150,7 +150,7 @@ module _ {w : Transfer → ℕ} {x : Figures Operation} (figures : Weighs w x wa
     unfolding read-cache cache_read_transfer
     bounded-read-cache column n sink = bounded-guard _ _ (λ e. bounded-more (taken flash.config.quad column n sink) bounded-transfer)
 
-    pub bounded-load-data : (column n : ℕ) (payload : Payload) → Bounded w x.moved (load-program-data flash column n payload)
+    pub bounded-load-data : (column n : ℕ) (payload : Payload) → Bounded w (paid x payload) (load-program-data flash column n payload)
     unfolding load-program-data cache_load_transfer
     bounded-load-data column n payload =
         bounded-guard _ _ (λ e. ended _ (omega arith) (bounded-more (loaded flash.config.quad column payload) bounded-transfer))
@@ -166,7 +166,7 @@ module _ {w : Transfer → ℕ} {x : Figures Operation} (figures : Weighs w x wa
     unfolding read-page
     bounded-read-page page n sink = bounded-guard _ _ (λ e. bounded-then (bounded-page-read page) (bounded-read-cache 0 n sink))
 
-    pub bounded-write-page : (page n : ℕ) → Bounded w (enabling x + x.moved + programming x + (loading x + x.moved)) (write-page flash page n)
+    pub bounded-write-page : (page n : ℕ) → Bounded w (enabling x + x.given + programming x + (loading x + x.given)) (write-page flash page n)
     unfolding write-page
     bounded-write-page page n =
         bounded-guard _ _

@@ -123,10 +123,10 @@ module _ (x : Figures Operation) where
   weight_of flash Call.Unprotect b = unprotecting
   weight_of flash (Call.PageRead page) b = loading
   weight_of flash (Call.ReadCache column) b = x.fill
-  weight_of flash (Call.LoadProgramData column) b = x.moved
+  weight_of flash (Call.LoadProgramData column) b = x.given
   weight_of flash (Call.ProgramExecute page) b = programming
   weight_of flash (Call.ReadPage page) b = loading + x.fill
-  weight_of flash (Call.WritePage page) b = enabling + x.moved + programming + (loading + x.moved)
+  weight_of flash (Call.WritePage page) b = enabling + x.given + programming + (loading + x.given)
   weight_of flash (Call.EraseBlock block) b = erasing
   weight_of flash (Call.Read offset) b = pages_touched flash.geometry offset b * (loading + x.fill)
   weight_of flash (Call.IsBadBlock block) b = loading

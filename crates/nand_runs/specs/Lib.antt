@@ -1,4 +1,5 @@
 pub mod Promises
+pub mod AsRust
 pub mod Chip
 pub mod Run
 pub mod Rust

@@ -17,7 +17,7 @@ use Rattle.nor_runs.proofs.Agrees.{same}
 use Rattle.nor_runs.proofs.Openings.{opened, alike}
 use Rattle.nor_runs.proofs.Bounds.{bounded, acts}
 use Rattle.nor_runs.proofs.Reaches.{ends, reached}
-use Rattle.nor_runs.proofs.Unread.{lent}
+use Rattle.nor_runs.proofs.Unread.{lent, dataless}
 use Rattle.nor_runs.proofs.Is.{nor-is}
 
 stays-next : (s : Setup) (phase : Phase) (o : Outcome) → Built phase → Stays s (next_of s phase o)
@@ -37,6 +37,7 @@ supplies = record {
   ends_well = λ flash call b given inside small asks can. let e = same flash call b (length given) inside in
       let ended = ends flash call b given inside small (rw e at asks) can in (delay_bound flash call (length given), ended.0, rw e ended.1);
   lent = lent;
+  dataless = dataless;
 }
 
 abbrev pub known : Known nor_driver

@@ -14,10 +14,11 @@ use Rattle.spi_flash.specs.Path.{Bounded}
 use Rattle.qspi.proofs.Cases.{by_cases}
 use Rattle.flash_runs.specs.Driver.{takes_of}
 use Rattle.flash_runs.proofs.Filling.{Fills}
-use Rattle.flash_runs.proofs.Weighing.{Weighs, read_figures, reads-weigh}
-use Rattle.flash_runs.proofs.Supplies.{Bounds, LendsAs}
+use Rattle.flash_runs.proofs.Weighing.{Weighs, read_figures, data_figures, reads-weigh, data-weigh}
+use Rattle.flash_runs.proofs.Supplies.{Bounds, LendsAs, LooksAs}
 use Rattle.spi_flash.proofs.Laws.{bounded-more}
-use Rattle.spi_flash.proofs.Unread.{buffer_reads, unread-wait}
+use Rattle.spi_flash.proofs.Dataless.{data_uses}
+use Rattle.spi_flash.proofs.Unread.{buffer_reads, none-waiting, unread-wait}
 use Rattle.spi_nor.specs.Opcode.{timings_of}
 use Rattle.spi_nor.specs.Command.{read_status1_command}
 use Rattle.spi_nor.specs.declared.config.NorDeviceInfo.{NorDeviceInfo}
@@ -57,6 +58,11 @@ no-construction : (taken : Bool) (q : Option NorQuadConfig) → 0 + 0 + pick tak
 no-construction true None = omega arith
 no-construction true (Some q) = omega arith
 no-construction false q = omega arith
+
+no-enabling : (taken : Bool) (q : Option NorQuadConfig) → 0 + 0 + pick taken (quad_weight data_figures q) 0 ≤ 0
+no-enabling true None = omega arith
+no-enabling true (Some q) = omega arith
+no-enabling false q = omega arith
 
 unread : (flash : Setup) (call : Call) (b d : ℕ) → Bounds nor_driver flash call b d → weight_of read_figures flash call b d ≤ 0 → Bounded buffer_reads 0 (program_of flash call b d)
 unread flash call b d h none = rw (same flash call b d h) (bounded-more none (weighed unread-figures flash call b d h))
@@ -117,3 +123,35 @@ lent flash Call.Unprotect b d h = unread flash Call.Unprotect b d h (omega arith
 lent flash (Call.Erase from to) b d h = unread flash (Call.Erase from to) b d h (no-sum flash.device (to - from) from to)
 lent flash (Call.EraseSector offset) b d h = unread flash (Call.EraseSector offset) b d h (omega arith)
 lent flash (Call.EraseBlock offset) b d h = unread flash (Call.EraseBlock offset) b d h (omega arith)
+
+-- ---- no call but write looks at the caller's data
+
+dataless-figures : Weighs data_uses data_figures wait-ready
+unfolding wait-ready
+dataless-figures = data-weigh wait-ready (λ operation. none-waiting data_uses (λ c. omega arith) (λ us. omega arith) read_status1_command busy_value (timings_of operation))
+
+unlooked : (flash : Setup) (call : Call) (b d : ℕ) → Bounds nor_driver flash call b d → weight_of data_figures flash call b d ≤ 0 → Bounded data_uses 0 (program_of flash call b d)
+unlooked flash call b d h none = rw (same flash call b d h) (bounded-more none (weighed dataless-figures flash call b d h))
+
+pub dataless : (flash : Setup) (call : Call) (b d : ℕ) → Bounds nor_driver flash call b d → LooksAs nor_driver flash call b d (takes_of (sort_of call b d))
+unfolding weight_of
+dataless flash Call.New b d h = unlooked flash Call.New b d h (omega arith)
+dataless flash (Call.WithConfig config) b d h = unlooked flash (Call.WithConfig config) b d h (no-enabling (page_taken config.device) config.quad)
+dataless flash Call.Config b d h = unlooked flash Call.Config b d h (omega arith)
+dataless flash Call.Device b d h = unlooked flash Call.Device b d h (omega arith)
+dataless flash Call.Id b d h = unlooked flash Call.Id b d h (omega arith)
+dataless flash Call.Free b d h = unlooked flash Call.Free b d h (omega arith)
+dataless flash Call.ReadStatus1 b d h = unlooked flash Call.ReadStatus1 b d h (omega arith)
+dataless flash Call.ReadStatus2 b d h = unlooked flash Call.ReadStatus2 b d h (omega arith)
+dataless flash Call.IsBusy b d h = unlooked flash Call.IsBusy b d h (omega arith)
+dataless flash Call.JedecId b d h = unlooked flash Call.JedecId b d h (omega arith)
+dataless flash Call.UniqueId b d h = unlooked flash Call.UniqueId b d h (omega arith)
+dataless flash Call.QuadEnabled b d h = unlooked flash Call.QuadEnabled b d h (omega arith)
+dataless flash Call.EnableQuad b d h = unlooked flash Call.EnableQuad b d h (omega arith)
+dataless flash Call.DisableQuad b d h = unlooked flash Call.DisableQuad b d h (omega arith)
+dataless flash (Call.Read offset) b d h = unlooked flash (Call.Read offset) b d h (omega arith)
+dataless flash (Call.Write offset) b d h = tt
+dataless flash Call.Unprotect b d h = unlooked flash Call.Unprotect b d h (omega arith)
+dataless flash (Call.Erase from to) b d h = unlooked flash (Call.Erase from to) b d h (no-sum flash.device (to - from) from to)
+dataless flash (Call.EraseSector offset) b d h = unlooked flash (Call.EraseSector offset) b d h (omega arith)
+dataless flash (Call.EraseBlock offset) b d h = unlooked flash (Call.EraseBlock offset) b d h (omega arith)

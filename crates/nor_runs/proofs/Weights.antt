@@ -49,7 +49,7 @@ module _ {w : Transfer → ℕ} {x : Figures Operation} (figures : Weighs w x wa
   taken None offset n sink = figures.framed _ _
   taken (Some q) offset n sink = figures.framed _ _
 
-  given : (q : Option NorQuadConfig) (offset from n : ℕ) → w (program_at q offset from n) ≤ x.moved
+  given : (q : Option NorQuadConfig) (offset from n : ℕ) → w (program_at q offset from n) ≤ x.given
   given None offset from n = figures.framed _ _
   given (Some q) offset from n = figures.framed _ _
 
@@ -139,11 +139,11 @@ module _ {w : Transfer → ℕ} {x : Figures Operation} (figures : Weighs w x wa
     unfolding read_transfer
     bounded-fill offset n at = bounded-more (taken flash.config.quad offset n (Sink.Buffer at)) bounded-transfer
 
-    bounded-compare : (offset n from : ℕ) → Bounded w x.moved (transfer (read_transfer flash offset n (Sink.Compare from)))
+    bounded-compare : (offset n from : ℕ) → Bounded w x.given (transfer (read_transfer flash offset n (Sink.Compare from)))
     unfolding read_transfer
     bounded-compare offset n from = bounded-more (taken flash.config.quad offset n (Sink.Compare from)) bounded-transfer
 
-    bounded-give : (offset from n : ℕ) → Bounded w x.moved (transfer (program_transfer flash offset from n))
+    bounded-give : (offset from n : ℕ) → Bounded w x.given (transfer (program_transfer flash offset from n))
     unfolding program_transfer
     bounded-give offset from n = bounded-more (given flash.config.quad offset from n) bounded-transfer
 

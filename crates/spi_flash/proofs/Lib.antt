@@ -10,7 +10,9 @@ pub mod Loops
 pub mod Runs
 pub mod Reach
 pub mod OnBus
-pub mod Performs
 pub mod Select
 pub mod Unread
+pub mod Dataless
+pub mod Performs
+pub mod Heeded
 pub mod Faithful

@@ -20,6 +20,7 @@ use Rattle.qspi.specs.declared.frame.Frame.{Frame}
 use Rattle.spi_flash.specs.declared.loan.Takes.{Takes}
 use Rattle.spi_flash.specs.declared.wait.Timings.{Timings}
 use Rattle.spi_flash.specs.Loan.{Lent}
+use Rattle.spi_flash.specs.Number.{number_transfer}
 use Rattle.spi_flash.specs.Prog.{Prog, ask}
 use Rattle.spi_flash.specs.WaitLaw.{wait_loop, waiting, delayed_wait, prompt_wait}
 use Rattle.spi_flash.specs.Path.{Bounded}
@@ -46,25 +47,32 @@ none_first t k h = let l = h.bound.0 in omega arith
 pub none-later : {A : Type 0} {w : Transfer → ℕ} (t : Transfer) (k : ℕ → Prog A) → Bounded w 0 (ask t k) → (v : ℕ) → Bounded w 0 (k v)
 none-later t k h v = record { bound = every-mono (k v) (λ xs e l. omega arith) (h.bound.2 v) }
 
--- a wait reads registers alone
-module _ (status : Command) (busy : ℕ → Bool) (t : Timings) where
-  unread-loop : (fuel waited : ℕ) → Bounded buffer_reads 0 (wait_loop status busy fuel t waited)
+-- a wait reads a register and pauses, and does nothing else
+module _ (w : Transfer → ℕ) (looks : (c : Command) → w (number_transfer c 1) ≤ 0) (pauses : (us : ℕ) → w (Transfer.Pause us) ≤ 0) (status : Command) (busy : ℕ → Bool) (t : Timings) where
+  none-looping : (fuel waited : ℕ) → Bounded w 0 (wait_loop status busy fuel t waited)
   unfolding wait_loop
-  unread-loop zero waited = bounded-fail
-  unread-loop (suc fuel) waited =
+  none-looping zero waited = bounded-fail
+  none-looping (suc fuel) waited =
       bounded-more (omega arith)
-      (bounded-bind {b = 0} {c = 0} bounded-transfer
+      (bounded-bind {b = 0} {c = 0} (bounded-more (looks status) bounded-transfer)
       (λ s. bounded-if (not (busy s)) bounded-ret
       (bounded-if (leb t.timeout_us waited) bounded-fail
-      (bounded-more (omega arith) (bounded-then {b = 0} {c = 0} bounded-transfer (unread-loop fuel (waited + t.poll_us)))))))
+      (bounded-more (omega arith) (bounded-then {b = 0} {c = 0} (bounded-more (pauses t.poll_us) bounded-transfer) (none-looping fuel (waited + t.poll_us)))))))
 
-  pub unread-wait : Bounded buffer_reads 0 (prompt_wait status busy t)
+  pub none-waiting : Bounded w 0 (prompt_wait status busy t)
   unfolding prompt_wait waiting
-  unread-wait = unread-loop _ 0
+  none-waiting = none-looping _ 0
+
+  pub none-delayed : Bounded w 0 (delayed_wait status busy t)
+  unfolding delayed_wait waiting
+  none-delayed = bounded-more (omega arith) (bounded-then {b = 0} {c = 0} (bounded-more (pauses t.initial_us) bounded-transfer) (none-looping _ _))
+
+module _ (status : Command) (busy : ℕ → Bool) (t : Timings) where
+  pub unread-wait : Bounded buffer_reads 0 (prompt_wait status busy t)
+  unread-wait = none-waiting buffer_reads (λ c. omega arith) (λ us. omega arith) status busy t
 
   pub unread-delayed : Bounded buffer_reads 0 (delayed_wait status busy t)
-  unfolding delayed_wait waiting
-  unread-delayed = bounded-more (omega arith) (bounded-then {b = 0} {c = 0} bounded-transfer (unread-loop _ _))
+  unread-delayed = none-delayed buffer_reads (λ c. omega arith) (λ us. omega arith) status busy t
 
 -- ---- the buffer in one step
 

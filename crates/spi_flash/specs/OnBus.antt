@@ -43,7 +43,7 @@ pub data Result : Type 0 where
   ok : List ℕ → Result
   err : ℕ → Result
 
--- "a bus that delivers nothing when it fails"
+-- an error delivers no byte (docs/SPECIFICATION.md, "Actions and replies")
 abbrev pub result_at : Reply → List ℕ → Result
 result_at Reply.Done bytes = ok []
 result_at Reply.Data bytes = ok bytes

@@ -29,12 +29,17 @@ unfoldable pub told : {C A : Type 0} → List (Entry C A) → List (Did A)
 told [] = []
 told (x ∷ xs) = told_then x.given x.left.buffer (told xs)
 
+-- what is given, whatever the buffer
+abbrev pub gives_of : {A : Type 0} → List (Did A) → List (Given A)
+gives_of [] = []
+gives_of (x ∷ xs) = x.given ∷ gives_of xs
+
 abbrev pub replies_of : {C : Type 0} → List (Event C) → List Answer
 replies_of [] = []
 replies_of (reply r bytes l ∷ es) = record { kind = r; bytes = bytes } ∷ replies_of es
 replies_of (call c l ∷ es) = replies_of es
 
--- ---- what the steps are lent; a refused one counts nowhere
+-- ---- a refused step counts nowhere (docs/SPECIFICATION.md, "Runs")
 
 abbrev pub unless_refused : {A B : Type 0} → Given A → B → B → B
 unless_refused (act shown) x y = x
@@ -42,18 +47,27 @@ unless_refused (ended a) x y = x
 unless_refused (failed e) x y = x
 unless_refused (refused e) x y = y
 
+-- the steps that were not refused
+unfoldable pub accepted : {C A : Type 0} → List (Entry C A) → List (Entry C A)
+accepted [] = []
+accepted (x ∷ xs) = unless_refused x.given (x ∷ accepted xs) (accepted xs)
+
+abbrev pub events_of : {C A : Type 0} → List (Entry C A) → List (Event C)
+events_of [] = []
+events_of (x ∷ xs) = x.event ∷ events_of xs
+
 abbrev pub Taken : {A : Type 0} → Given A → Type 0 → Type 0
 Taken (act shown) P = P
 Taken (ended a) P = P
 Taken (failed e) P = P
 Taken (refused e) P = Unit {0}
 
--- "the same data lent throughout a call"
+-- every step that counts is lent these data
 unfoldable pub SameData : {C A : Type 0} → List ℕ → List (Entry C A) → Type 0
 SameData given [] = Unit {0}
 SameData given (x ∷ xs) = Taken x.given ((lent_to x.event).given ≡ given) × SameData given xs
 
--- "if nobody else writes there": each step finds the buffer as the one before left it
+-- each step that counts finds the buffer as the one before left it
 unfoldable pub Undisturbed : {C A : Type 0} → List ℕ → List (Entry C A) → Type 0
 Undisturbed buffer [] = Unit {0}
 Undisturbed buffer (x ∷ xs) = Taken x.given ((lent_to x.event).buffer ≡ buffer) × Undisturbed (unless_refused x.given x.left.buffer buffer) xs

@@ -1,0 +1,209 @@
+-- The NAND driver does what the Rust does, but for a construction with a page above 4,096.
+use Prim.Native.Nat.{ℕ}
+use mathlib.Core.Bool.{Bool, true, false, true≢false}
+use mathlib.Core.Option.{Option, none}
+use mathlib.Core.Path.{◌≡◌, refl, ap, ap₂, sym, ◌∙◌, fun_ext}
+use mathlib.Core.List.{List, [], ◌∷◌, map}
+use lib.ListN.{length}
+use lib.Dec.{ltb}
+use borrow.Author.Tests.{not-true, leb-false, lt-ltb}
+use Rattle.qspi.specs.Bytes.{delivered_of}
+use Rattle.qspi.specs.Choice.{pick}
+use Rattle.qspi.specs.declared.transfer.Transfer.{Transfer}
+use Rattle.spi_flash.specs.Loan.{Lent}
+use Rattle.spi_flash.specs.OnBus as OnBus
+use Rattle.spi_flash.specs.OnBus.{BusProg, answers, stops, does, fills, on_bus, program_on_bus, performed}
+use Rattle.spi_flash.specs.Prog.{Prog, ret, fail, ask, ◌>>=◌, ◌>>◌, refuse}
+use Rattle.spi_flash.specs.Run.{Event, Answer}
+use Rattle.spi_flash.specs.Seen.{Did, told, gives_of, replies_of, accepted, Undisturbed}
+use Rattle.spi_flash.specs.declared.error.FlashError.{FlashError}
+use Rattle.spi_flash.proofs.Laws.{bind_assoc}
+use Rattle.flash_runs.specs.Driver.{steps_at, sort_at}
+use Rattle.flash_runs.specs.Promises.{Promises}
+use Rattle.flash_runs.specs.SameAsRust.{left_by, driver_after, Turn, Steady, Regular, accepted_at, rust_call, driver_of, turn_steps, turn_after, EachTurn, each_turn, accepted_turn, turn_gives, holding, rust_turn, rust_session}
+use Rattle.flash_runs.proofs.Promises.{promises}
+use Rattle.flash_runs.proofs.SameAsRust.{turn-gives, left-as}
+use Rattle.spi_nand.specs.declared.config.NandInit.{NandInit}
+use Rattle.spi_nand.specs.declared.config.NandJedecId.{NandJedecId}
+use Rattle.spi_nand.specs.declared.config.SpiNandConfig.{SpiNandConfig}
+use Rattle.spi_nand.specs.declared.status.Configuration.{Configuration}
+use Rattle.spi_nand.specs.declared.status.Protection.{Protection}
+use Rattle.spi_nand.specs.declared.call.Call.{Call}
+use Rattle.spi_nand.specs.declared.setup.Setup.{Setup}
+use Rattle.spi_nand.specs.Setup.{init_of}
+use Rattle.nand_driver.specs.Settle.{SpiNandFlash}
+use Rattle.nand_runs.specs.AsRust.{rust_driver, identification, BeginsIdentifying, configured_then_refused, identified_then_refused, refused_by, but_large, AsRust}
+use Rattle.nand_runs.specs.Program.{Left, rust_program, large_page, refused-page}
+use Rattle.nand_runs.specs.Rust.{MAX-VERIFY-PAGE-SIZE, read-configuration, reset-and-identify, ensure-configuration, unprotect, bring-up, constructed, with-config}
+use Rattle.nand_runs.specs.Run.{nand_driver}
+use Rattle.nand_runs.proofs.Places.{parts, Valid}
+use Rattle.nand_runs.proofs.Keeps.{Built}
+use Rattle.nand_runs.proofs.Meaning.{DONE, meaning}
+use Rattle.nand_runs.proofs.Simulation.{simulates}
+use Rattle.nand_runs.proofs.Construction.{large}
+use Rattle.nand_runs.proofs.Known.{supplies, known}
+use Rattle.nand_runs.proofs.Is.{nand-is}
+
+pub general : Promises nand_driver
+general = promises nand_driver parts Valid Built meaning supplies nand-is
+
+-- ---- one call
+
+stops-identified : refused-page ≡ identified_then_refused
+unfolding refused-page ◌>>=◌ ◌>>◌
+stops-identified = refl
+
+module _ (s : Setup) (call : Call) (l : Lent) (es : List (Event Call)) where
+  abbrev own : Prog Left
+  own = rust_program s call (length l.buffer) (length l.given)
+
+  small-call : large_page call ≡ false → rust_call nand_driver s call l es ≡ rust_call rust_driver s call l es
+  small-call small = ap (λ x. performed (program_on_bus l.given (pick x refused-page own)) (replies_of es) l.buffer) small
+
+  large-call : large_page call ≡ true → rust_call nand_driver s call l es ≡ refused_by l es
+  large-call big =
+      ap (λ x. performed (program_on_bus l.given (pick x refused-page own)) (replies_of es) l.buffer) big
+      ∙ ap (λ p. performed (program_on_bus l.given p) (replies_of es) l.buffer) stops-identified
+
+-- ---- the Rust's construction with a page that is too large
+
+identifies : (s : Setup) (config : SpiNandConfig) (b d : ℕ) → BeginsIdentifying (rust_program s (Call.WithConfig config) b d)
+unfolding rust_program with-config bring-up ◌>>=◌ ◌>>◌
+identifies s config b d =
+    let rest : NandJedecId → Prog NandInit = λ id. ensure-configuration config >>= (λ before. unprotect >>= (λ protection. read-configuration >>= (λ after. ret (init_of id before after protection)))) in
+    let last : NandInit → Prog Setup = λ init. refuse (ltb MAX-VERIFY-PAGE-SIZE (constructed config init).geometry.page_size) FlashError.NotSupported >> ret (constructed config init) in
+    record {
+      rest = λ id. (rest id >>= last) >>= DONE;
+      is = ap (ask Transfer.Raise) (fun_ext (λ v. ap (λ p. p >>= DONE) (bind_assoc reset-and-identify rest last) ∙ bind_assoc reset-and-identify (λ id. rest id >>= last) DONE));
+    }
+
+module _ (config : SpiNandConfig) (big : large_page (Call.WithConfig config) ≡ true) where
+  abbrev refusal : Prog Left
+  refusal = fail FlashError.NotSupported
+
+  abbrev last : NandInit → Prog Setup
+  last init = refuse (ltb MAX-VERIFY-PAGE-SIZE (constructed config init).geometry.page_size) FlashError.NotSupported >> ret (constructed config init)
+
+  too-large : (init : NandInit) → last init >>= DONE ≡ refusal
+  unfolding refuse ◌>>=◌ ◌>>◌
+  too-large init = rw (lt-ltb MAX-VERIFY-PAGE-SIZE _ (leb-false _ MAX-VERIFY-PAGE-SIZE (large config.geometry init.id (not-true _ big)))) refl
+
+  abbrev rest : NandJedecId → Prog NandInit
+  rest id = ensure-configuration config >>= (λ before. unprotect >>= (λ protection. read-configuration >>= (λ after. ret (init_of id before after protection))))
+
+  abbrev refused-after : Prog Left
+  refused-after = ensure-configuration config >>= (λ before. unprotect >>= (λ protection. read-configuration >>= (λ after. refusal)))
+
+  told-last : (id : NandJedecId) (before : Configuration) (protection : Protection) →
+      (read-configuration >>= (λ after. ret (init_of id before after protection))) >>= (λ init. refusal) ≡ read-configuration >>= (λ after. refusal)
+  unfolding ◌>>=◌
+  told-last id before protection = bind_assoc read-configuration (λ after. ret (init_of id before after protection)) (λ init. refusal)
+
+  refuses-rest : (id : NandJedecId) → rest id >>= (λ init. refusal) ≡ refused-after
+  refuses-rest id =
+      bind_assoc (ensure-configuration config) (λ before. unprotect >>= (λ protection. read-configuration >>= (λ after. ret (init_of id before after protection)))) (λ init. refusal)
+      ∙ ap (λ f. ensure-configuration config >>= f)
+      (fun_ext (λ before. bind_assoc unprotect (λ protection. read-configuration >>= (λ after. ret (init_of id before after protection))) (λ init. refusal)
+      ∙ ap (λ f. unprotect >>= f) (fun_ext (λ protection. told-last id before protection))))
+
+  goes-on : (s : Setup) (b d : ℕ) → rust_program s (Call.WithConfig config) b d ≡ configured_then_refused config
+  unfolding rust_program with-config bring-up ◌>>=◌ ◌>>◌
+  goes-on s b d =
+      ap (ask Transfer.Raise)
+      (fun_ext (λ v. ap (λ p. p >>= DONE) (bind_assoc reset-and-identify rest last)
+      ∙ bind_assoc reset-and-identify (λ id. rest id >>= last) DONE
+      ∙ ap (λ f. reset-and-identify >>= f) (fun_ext (λ id. bind_assoc (rest id) last DONE ∙ ap (λ f. rest id >>= f) (fun_ext too-large) ∙ refuses-rest id))))
+
+-- ---- a program that fails in the end leaves no driver
+
+abbrev LeavesNone : BusProg Left → Type 0
+LeavesNone q = (replies : List Answer) (buffer : List ℕ) → left_by (performed q replies buffer) ≡ none
+
+none-on-bus : {X : Type 0} (q : BusProg X) (f : X → BusProg Left) → ((x : X) → LeavesNone (f x)) → LeavesNone (OnBus.◌>>=◌ q f)
+unfolding OnBus.◌>>=◌ performed
+none-on-bus (answers x) f h rs buffer = h x rs buffer
+none-on-bus (stops e) f h rs buffer = refl
+none-on-bus (does shown k) f h [] buffer = refl
+none-on-bus (does shown k) f h (r ∷ rs) buffer = none-on-bus (k r) f h rs buffer
+none-on-bus (fills at bytes q) f h rs buffer = none-on-bus q f h rs (delivered_of buffer at bytes)
+
+module _ (given : List ℕ) where
+  none-fail : (e : FlashError) → LeavesNone (program_on_bus given (fail e))
+  unfolding program_on_bus performed
+  none-fail e rs buffer = refl
+
+  none-bind : {X : Type 0} (p : Prog X) (f : X → Prog Left) → ((x : X) → LeavesNone (program_on_bus given (f x))) → LeavesNone (program_on_bus given (p >>= f))
+  unfolding program_on_bus ◌>>=◌ performed
+  none-bind (ret x) f h = h x
+  none-bind (fail e) f h = λ rs buffer. refl
+  none-bind (ask t k) f h = none-on-bus (on_bus given t) (λ v. program_on_bus given (k v >>= f)) (λ v. none-bind (k v) f h)
+
+  large-none : (config : SpiNandConfig) → LeavesNone (program_on_bus given (configured_then_refused config))
+  large-none config =
+      none-bind identification _ (λ id. none-bind (ensure-configuration config) _
+      (λ before. none-bind unprotect _ (λ protection. none-bind read-configuration _ (λ after. none-fail FlashError.NotSupported))))
+
+  rust-none : (s : Setup) (c : Call) (b d : ℕ) → large_page c ≡ true → LeavesNone (program_on_bus given (rust_program s c b d))
+  rust-none s (Call.WithConfig config) b d big = rw (goes-on config big s b d) (large-none config)
+  rust-none s c b d big = absurd (true≢false (sym big))
+
+refused-none : (l : Lent) (es : List (Event Call)) → left_by (refused_by l es) ≡ none
+refused-none l es = none-bind l.given identification _ (λ id. none-fail l.given FlashError.NotSupported) (replies_of es) l.buffer
+
+large-gives : (flash : SpiNandFlash) (call : Call) (l : Lent) (es : List (Event Call)) → Steady nand_driver flash call l es → large_page call ≡ true →
+    gives_of (told (accepted (steps_at nand_driver flash call l es))) ≡ gives_of (refused_by l (accepted_at nand_driver flash call l es))
+large-gives flash call l es h big = general.same_as_rust.gives flash call l es h ∙ ap gives_of (large-call flash.setup call l (accepted_at nand_driver flash call l es) big)
+
+-- ---- any sequence of calls
+
+module _ (flash : SpiNandFlash) (x : Turn Call) (h : Steady nand_driver flash x.call x.lent x.events) where
+  abbrev before : Option Setup
+  before = driver_of nand_driver flash
+
+  abbrev taken : Turn Call
+  taken = accepted_turn nand_driver flash x
+
+  abbrev rust : List (Did Left)
+  rust = rust_turn rust_driver before taken
+
+  small-turn : large_page x.call ≡ false → turn_gives nand_driver flash x ≡ gives_of rust
+  small-turn small = turn-gives known flash x h ∙ ap gives_of (small-call (holding nand_driver.blank before) x.call x.lent taken.events small)
+
+  turn-but : (b : Bool) → large_page x.call ≡ b → pick b [] (turn_gives nand_driver flash x) ≡ pick b [] (gives_of rust)
+  turn-but true big = refl
+  turn-but false small = small-turn small
+
+  turn-left : (b : Bool) → large_page x.call ≡ b → left_by (told (turn_steps nand_driver flash x)) ≡ left_by rust
+  turn-left true big =
+      left-as (turn_steps nand_driver flash x) (refused_by x.lent taken.events) (large-gives flash x.call x.lent x.events h big)
+      ∙ refused-none x.lent taken.events
+      ∙ sym (rust-none x.lent.given (holding nand_driver.blank before) x.call (length x.lent.buffer) (length x.lent.given) big (replies_of taken.events) x.lent.buffer)
+  turn-left false small = left-as (turn_steps nand_driver flash x) rust (small-turn small)
+
+  turn-driver : driver_of nand_driver (turn_after nand_driver flash x) ≡ driver_after (sort_at nand_driver x.call x.lent) before (left_by rust)
+  turn-driver = general.same_as_rust.left flash x.call x.lent x.events h.usable ∙ ap (driver_after (sort_at nand_driver x.call x.lent) before) (turn-left (large_page x.call) refl)
+
+sessions : (flash : SpiNandFlash) (turns : List (Turn Call)) → EachTurn nand_driver (λ flash x. Steady nand_driver flash x.call x.lent x.events) flash turns →
+    but_large turns (each_turn nand_driver (turn_gives nand_driver) flash turns) ≡
+    but_large turns (map gives_of (rust_session rust_driver (driver_of nand_driver flash) (each_turn nand_driver (accepted_turn nand_driver) flash turns)))
+unfolding EachTurn each_turn rust_session
+sessions flash [] h = refl
+sessions flash (x ∷ xs) h =
+    ap₂ (λ a b. a ∷ b) (turn-but flash x h.0 (large_page x.call) refl)
+    (sessions (turn_after nand_driver flash x) xs h.1
+    ∙ ap (λ before. but_large xs (map gives_of (rust_session rust_driver before (each_turn nand_driver (accepted_turn nand_driver) (turn_after nand_driver flash x) xs))))
+    (turn-driver flash x h.0))
+
+pub as-rust : AsRust
+as-rust = record {
+  gives = λ flash call l es h small. general.same_as_rust.gives flash call l es h ∙ ap gives_of (small-call flash.setup call l (accepted_at nand_driver flash call l es) small);
+  delivers = λ flash call l es h still small. general.same_as_rust.delivers flash call l es h still ∙ small-call flash.setup call l (accepted_at nand_driver flash call l es) small;
+  same = λ flash call l es h small. general.same_as_rust.same flash call l es h ∙ small-call flash.setup call l es small;
+  large = λ flash call l es h big. general.same_as_rust.same flash call l es h ∙ large-call flash.setup call l es big;
+  large_gives = large-gives;
+  identifies = λ flash config b d. identifies flash.setup config b d;
+  goes_on = λ flash config b d big. goes-on config big flash.setup b d;
+  rust_leaves_none = λ flash config b d big given buffer rs. rust-none given flash.setup (Call.WithConfig config) b d big rs buffer;
+  leaves_none = refused-none;
+  sessions = sessions;
+}
