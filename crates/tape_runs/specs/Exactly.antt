@@ -1,4 +1,4 @@
--- When a step of a replay ends it with 16, and when with 14.
+-- When a step of a replay ends it with 16, and when with 14 (docs/SPECIFICATION.md, "The reply tape").
 use Rattle.std.specs.Prelude.{ℕ, true, false, ◌≡◌, List, length, Option, None}
 use Rattle.qspi.specs.Bus.{fits_of, on_bus}
 use Rattle.qspi.specs.declared.bus.Action.{Action}
@@ -26,10 +26,10 @@ module _ {R F C A : Type 0} (player : Player R F C A) where
   next_record r tape = (taken_at tape (player.at r)).given
 
 pub record Exactly {R F C A : Type 0} (player : Player R F C A) : Type 0 where
-  -- document 01: "16 a bus action awaits and no record is left", and only then
+  -- 16 just where a bus action awaits a record and none is left
   pub spent : (r : R) (tape : List ℕ) (l : Lent) (action : Action) → player.last r ≡ acts action →
       Just (step_gives player r tape l ≡ refuses FlashError.TapeSpent) ((on_bus action ≡ true) × (next_record player r tape ≡ None))
-  -- document 01: "A record that doesn't fit its action ends the replay with 14", and no other does, with what the call takes lent as at its beginning
+  -- 14 just where the record does not fit the action, with what the call takes lent as at its beginning
   pub misfit : (r : R) (tape : List ℕ) (l : Lent) (takes : Takes) (f : Frame) → player.awaited (player.flash r) ≡ frame takes f → player.last r ≡ acts (action_of f) →
       on_bus (action_of f) ≡ true → spent_of (next_record player r tape) ≡ false → ready_for takes l ≡ true →
       Just (step_gives player r tape l ≡ refuses FlashError.Misfit)

@@ -1,4 +1,4 @@
--- A replay is the driver's run on the replies of the tape.
+-- A replay is the driver's run on the replies of the tape (docs/SPECIFICATION.md, "The reply tape").
 use Rattle.std.specs.Prelude.{ℕ, Bool, true, false, ◌≡◌, List, [], ◌∷◌, ◌++◌}
 use Rattle.qspi.specs.Shown.{Shown, low, high, write, read, quad_read, quad_write, delay}
 use Rattle.qspi.specs.declared.bus.Reply.{Reply}
@@ -32,7 +32,7 @@ module _ {R F C A : Type 0} (player : Player R F C A) where
 
 -- ---- the tape's replies
 
--- "Only bus actions use a record"
+-- what the bus answers: select and the delay are the host's
 abbrev pub uses_record : Shown → Bool
 uses_record low = false
 uses_record high = false
@@ -71,7 +71,7 @@ Answered records before (x ∷ xs) = AnsweredAs before records x.event (λ rest.
 
 -- ---- the statement
 
--- "16 a bus action awaits and no record is left": the replay's last step, or nothing
+-- the replay's last step, in which the tape is spent, or nothing
 abbrev pub SpentOrNot : {A : Type 0} → List (Did A) → Type 0
 SpentOrNot [] = Unit {0}
 SpentOrNot (x ∷ xs) = (x.given ≡ Run.refused FlashError.TapeSpent) × (xs ≡ [])
