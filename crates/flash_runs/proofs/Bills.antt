@@ -3,6 +3,7 @@ use Prim.Native.Nat.{ℕ, ◌≤◌}
 use native.Mathlib.Omega.{arith}
 use mathlib.Core.Bool.{true, false}
 use mathlib.Core.Logic.{⊎_elim}
+use mathlib.Core.Option.{some}
 use mathlib.Core.Path.{◌≡◌, refl, ap, subst}
 use mathlib.Core.List.{List, [], ◌∷◌}
 use lib.ListN.{length}
@@ -10,24 +11,26 @@ use Rattle.qspi.specs.Bytes.{AllBytes}
 use Rattle.qspi.specs.Frame.{Outcome, first_of, exchange_of}
 use Rattle.qspi.specs.declared.frame.Exchanged.{Exchanged}
 use Rattle.qspi.specs.declared.frame.Frame.{Frame}
-use Rattle.spi_flash.specs.Ending.{Ending, ends_with}
 use Rattle.spi_flash.specs.Loan.{Lent}
 use Rattle.spi_flash.specs.Prog.{Prog, ask}
 use Rattle.spi_flash.specs.Path.{Past, End, going, done, failed, spent, delays, actions, asked, Well, Bounded, Reaches, Ends}
 use Rattle.spi_flash.specs.Run as Run
+use Rattle.spi_flash.specs.Seen.{told_then, told}
 use Rattle.spi_flash.specs.declared.loan.Takes.{Takes}
-use Rattle.spi_flash.specs.Run.{Event, reply, call, delay_asked, Fitting, HasEnded, answering, goes_on}
+use Rattle.spi_flash.specs.Run.{Event, reply, call, delay_asked, Fitting, HasEnded, Lending, answering, goes_on}
 use Rattle.spi_flash.specs.Machine.{Decision, more, well, bad, Config, machine, out, lent_as, settle, moved, Trail, decided_trail, heard_trail, trail}
 use Rattle.spi_flash.proofs.Runs.{heard-view, first-delay, trail-asks, run-bound, run_ends}
 use Rattle.spi_flash.proofs.Reach.{reached}
 use Rattle.flash_runs.specs.Driver.{Left, Driver, takes_at, program_at, bound_at, most_actions_at, ends_at, run_at, steps_at}
-use Rattle.flash_runs.specs.WithinBound.{GivesAction, bill_of, bill_at, ending_as, ended_as, EndsAs, ComesTo, EndsWell, WithinBound}
+use Rattle.flash_runs.specs.SameAsRust.{left_by}
+use Rattle.flash_runs.specs.WithinBound.{GivesAction, bill_of, bill_at, ComesTo, EndsWell, WithinBound}
 use Rattle.flash_runs.proofs.General.{Parts, Place, decide_next}
+use Rattle.flash_runs.proofs.EndsAsRust.{lending-data, ends-as-rust}
 use Rattle.flash_runs.proofs.Supplies.{Asks, Supplies, Known}
 use Rattle.flash_runs.proofs.Judged.{refuses-just}
 use Rattle.flash_runs.proofs.Refusals.{refusals-keep}
 use Rattle.flash_runs.proofs.NoRun.{acts-alike, quiet-asked}
-use Rattle.flash_runs.proofs.Views.{shape, Opens, Nothing-begun, view, begun-opens, no_run, opens-run}
+use Rattle.flash_runs.proofs.Views.{shape, Opens, Nothing-begun, view, begun-opens, no_run, on_machine, opens-run, opens-call}
 
 -- where the path of a run has ended well, the run has ended with that answer
 IsDone : {B : Type 0} → B → End B → Type 0
@@ -41,22 +44,19 @@ well-done a b past (going t) h = h
 well-done a b past (done x) h = h.0
 well-done a b past (failed e) h = h
 
-module _ (C : Type 0) {S A T : Type 0} (next : T → Outcome → Decision T (Left S A)) (values : A → List ℕ) (k : Takes) (a : Left S A) where
-  abbrev e : Ending
-  e = ends_with 0 (values a.answer)
-
+module _ (C : Type 0) {S A T : Type 0} (next : T → Outcome → Decision T (Left S A)) (k : Takes) (a : Left S A) where
   abbrev after : Run.Moved (Config T) (Left S A) → List (Event C) → Type 0
-  after m es = ended_as (ending_as values m.given) e (EndsAs values e (goes_on (machine next C) m.flash es))
+  after m es = left_by (told_then m.given m.left.buffer (told (goes_on (machine next C) m.flash es))) ≡ some a
 
-  settled-ends : (es : List (Event C)) → ((s : T) (f : Frame) → IsDone a (trail next k s f es).stop → EndsAs values e (goes_on (machine next C) (out k s f) es)) →
+  settled-ends : (es : List (Event C)) → ((s : T) (f : Frame) → IsDone a (trail next k s f es).stop → left_by (told (goes_on (machine next C) (out k s f) es)) ≡ some a) →
       (d : Decision T (Left S A)) (l : Lent) → IsDone a (decided_trail d (λ t s. trail next k s (first_of t) es)).stop → after (settle k d l) es
   unfolding IsDone first_of
   settled-ends es ih (more t s) l h = ih s (first_of t) h
-  settled-ends es ih (well b) l h = ap (λ x. ends_with 0 (values x.answer)) h
+  settled-ends es ih (well b) l h = ap some h
   settled-ends es ih (bad x) l h = absurd h
 
-  ends-with : (s : T) (f : Frame) (es : List (Event C)) → IsDone a (trail next k s f es).stop → EndsAs values e (goes_on (machine next C) (out k s f) es)
-  unfolding IsDone EndsAs goes_on trail
+  ends-with : (s : T) (f : Frame) (es : List (Event C)) → IsDone a (trail next k s f es).stop → left_by (told (goes_on (machine next C) (out k s f) es)) ≡ some a
+  unfolding IsDone told goes_on trail
   ends-with s f [] h = absurd h
   ends-with s f (call c l ∷ es) h = ends-with s f es h
   ends-with s f (reply r bytes l ∷ es) h =
@@ -152,18 +152,23 @@ module _ {F C S A : Type 0} {driver : Driver F C S A} (known : Known driver) whe
     -- ---- and ends well on some replies
 
     comes-well : AllBytes l.given → ends_at driver flash c l ≡ true → Opened → EndsWell driver flash c l
-    unfolding EndsAs
+    unfolding told Fitting first_of
     comes-well small can o =
         let e = supplies.ends_well s c b l.given o.bounds small (asks o) can in
         let path : Ends l.given delays e.0 e.1 (ask o.first (meaning o.at)) = subst (Ends l.given delays e.0 e.1) o.program e.2 in
         let r = reached C (decide_next parts) (takes_at driver c l) l.given known.Valid meaning supplies.simulates o.first o.at (Well (λ x xs. (x ≡ e.1) × (spent delays xs ≡ e.0))) o.valid path.ends in
+        let done : (ls : List Lent) → length ls ≡ length r.0 → Lending (takes_at driver c l) l.given ls → left_by (told (on_machine known o (answering r.0 ls))) ≡ some e.1 =
+        λ ls n w. ends-with C (decide_next parts) (takes_at driver c l) e.1 o.at (first_of o.first) (answering r.0 ls) (well-done e.1 e.0 _ _ (r.2.leads ls n w)) in
         record {
-          values = driver.values e.1.answer;
+          left = e.1;
           replies = r.0;
           real = r.1;
-          ends = λ ls n w.
-              rw (opens-run known flash o (answering r.0 ls))
-              (ends-with C (decide_next parts) driver.values (takes_at driver c l) e.1 o.at (first_of o.first) (answering r.0 ls) (well-done e.1 e.0 _ _ (r.2.leads ls n w)));
+          fits = λ ls n w. rw (opens-run known flash o (answering r.0 ls)) (r.2.fits ls n w);
+          ends = λ ls n w. rw (opens-run known flash o (answering r.0 ls)) (done ls n w);
+          as_rust = λ ls n w.
+              ends-as-rust known flash c l o (answering r.0 ls) e.1 (r.2.fits ls n w)
+              (lending-data (machine (decide_next parts) C) (out (takes_at driver c l) o.at (first_of o.first)) (takes_at driver c l) l.given r.0 ls w)
+              (rw (opens-call known flash o (answering r.0 ls)) (done ls n w));
         }
 
   -- ---- over the steps on a driver at rest

@@ -14,6 +14,7 @@ pub mod Refusals
 pub mod LeftBehind
 pub mod SameAsRust
 pub mod Begins
+pub mod EndsAsRust
 pub mod Delivered
 pub mod Breaking
 pub mod Scratch

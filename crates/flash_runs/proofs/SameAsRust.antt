@@ -143,7 +143,7 @@ module _ {F C S A : Type 0} {driver : Driver F C S A} (known : Known driver) whe
           performs C known.Valid (decide_next parts) taking known.meaning known.supplies.simulates l.given whole o.first o.at es l o.valid refl
           (lends (known.supplies.dataless setup c (length l.buffer) (length l.given) o.bounds) same) (looks_then whole (λ h. h.1) still)
 
-      opened-does : (whole : Bool) → LendsData taking l.given steps → Looks whole (Undisturbed l.buffer steps) → Does whole program steps
+      pub opened-does : (whole : Bool) → LendsData taking l.given steps → Looks whole (Undisturbed l.buffer steps) → Does whole program steps
       opened-does whole same still =
           let e = opens-call known flash o es in
           subst (Does whole program) (sym e)

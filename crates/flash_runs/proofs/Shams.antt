@@ -4,7 +4,7 @@ use native.Mathlib.Omega.{arith}
 use mathlib.Core.Bool.{Bool, true, false, true≢false}
 use mathlib.Core.Path.{◌≡◌, refl, ap, sym, ◌∙◌, subst}
 use mathlib.Core.List.{List, [], ◌∷◌}
-use mathlib.Core.Option.{Option, none}
+use mathlib.Core.Option.{Option, none, some}
 use lib.ListN.{length, replicate}
 use Rattle.qspi.specs.Bytes.{AllBytes}
 use Rattle.qspi.specs.Command.{scratch_least}
@@ -16,16 +16,15 @@ use Rattle.spi_flash.specs.Loan.{Lent, ready_for}
 use Rattle.spi_flash.specs.OnBus.{◌>>=◌, ◌>>◌, reading, framed, framed_then, on_bus, program_on_bus, performed}
 use Rattle.spi_flash.specs.Prog.{Prog, ret, fail, ask}
 use Rattle.spi_flash.specs.Run as Run
-use Rattle.spi_flash.specs.Ending.{Ending, ends_with}
 use Rattle.spi_flash.specs.Run.{Event, Moved, System, Answer, Fitting, answering, Lending, at_once, goes_on, begun_with, run_of, call_of, delay_asked}
-use Rattle.spi_flash.specs.Seen.{Did, told, SameData, Undisturbed}
+use Rattle.spi_flash.specs.Seen.{Did, told_then, told, SameData, Undisturbed}
 use Rattle.spi_flash.specs.declared.loan.Takes.{Takes}
 use Rattle.flash_runs.specs.Driver.{Left, constructs, works_on, Driver, sort_at, takes_at, program_at, bound_at, run_at, steps_at, flash_after}
 use Rattle.flash_runs.specs.Promises.{Promises}
 use Rattle.flash_runs.specs.Refusals.{out_then, is_out, out_after, ToldByHistory}
-use Rattle.flash_runs.specs.SameAsRust.{Regular, rust_call, SameAsRust}
+use Rattle.flash_runs.specs.SameAsRust.{Regular, rust_call, left_by, SameAsRust}
 use Rattle.flash_runs.specs.Shams.{Asks, Subject, in_place, billing, Refuses, Succeeds, ForTheBus, ShamsFail}
-use Rattle.flash_runs.specs.WithinBound.{GivesAction, Begun, ending_as, ended_as, EndsAs, ComesTo, WithinBound}
+use Rattle.flash_runs.specs.WithinBound.{GivesAction, Begun, ComesTo, WithinBound}
 
 -- ---- a program that uses the bus gives out an action first
 
@@ -190,12 +189,18 @@ constructing driver call l c history = record {
 
 -- ---- a call that has ended has no action out
 
-module _ {F C S A : Type 0} (system : System F C (Left S A)) (values : A → List ℕ) (e : Ending) where
+none-left : {S A : Type 0} {left : Left S A} → none ≡ some left → ⊥
+none-left h = let z : ◌≡◌ {A = ℕ} 0 1 = cc in omega arith
+
+module _ {F C S A : Type 0} (system : System F C (Left S A)) (left : Left S A) where
+  abbrev Leaves : List (Run.Entry C (Left S A)) → Type 0
+  Leaves xs = left_by (told xs) ≡ some left
+
   abbrev Stops : F → Option Shown → Type 0
   Stops flash before = (es : List (Event C)) × (out_after before (goes_on system flash es) ≡ none)
 
-  module _ (a : Answer) (replies : List Answer) (l : Lent) (ls : List Lent) (before : Option Shown) (m : Moved F (Left S A))
-      (further : (before : Option Shown) → EndsAs values e (goes_on system m.flash (answering replies ls)) → Stops m.flash before) where
+  module _ (replies : List Answer) (ls : List Lent) (before : Option Shown) (m : Moved F (Left S A))
+      (further : (before : Option Shown) → Leaves (goes_on system m.flash (answering replies ls)) → Stops m.flash before) where
     abbrev StopsBy : Type 0
     StopsBy = (es : List (Event C)) × (out_after (out_then m.given before) (goes_on system m.flash es) ≡ none)
 
@@ -203,19 +208,19 @@ module _ {F C S A : Type 0} (system : System F C (Left S A)) (values : A → Lis
     unfolding goes_on out_after
     over is = ([], is)
 
-    at : (g : Run.Given (Left S A)) → m.given ≡ g → ended_as (ending_as values g) e (EndsAs values e (goes_on system m.flash (answering replies ls))) → StopsBy
+    at : (g : Run.Given (Left S A)) → m.given ≡ g → left_by (told_then g m.left.buffer (told (goes_on system m.flash (answering replies ls)))) ≡ some left → StopsBy
     at (Run.act shown) is h = further (out_then m.given before) h
-    at (Run.ended left) is h = over (ap (λ g. out_then g before) is)
+    at (Run.ended a) is h = over (ap (λ g. out_then g before) is)
     at (Run.failed error) is h = over (ap (λ g. out_then g before) is)
     at (Run.refused error) is h = further (out_then m.given before) h
 
-  stops : (replies : List Answer) (ls : List Lent) (flash : F) (before : Option Shown) → EndsAs values e (goes_on system flash (answering replies ls)) → Stops flash before
-  unfolding EndsAs goes_on out_after
-  stops [] ls flash before h = absurd h
-  stops (a ∷ replies) [] flash before h = absurd h
+  stops : (replies : List Answer) (ls : List Lent) (flash : F) (before : Option Shown) → Leaves (goes_on system flash (answering replies ls)) → Stops flash before
+  unfolding told goes_on out_after
+  stops [] ls flash before h = absurd (none-left h)
+  stops (a ∷ replies) [] flash before h = absurd (none-left h)
   stops (a ∷ replies) (l ∷ ls) flash before h =
       let m = system.answer flash a.kind a.bytes l in
-      let r = at a replies l ls before m (λ b k. stops replies ls m.flash b k) m.given refl h in
+      let r = at replies ls before m (λ b k. stops replies ls m.flash b k) m.given refl h in
       (Run.reply a.kind a.bytes l ∷ r.0, r.1)
 
 -- ---- all of them
@@ -260,20 +265,21 @@ module _ {F C S A : Type 0} (driver : Driver F C S A) (G : Type 0) (call : C) (l
     AtRest es = held.system.running (flash_after held sham.fresh call l es) ≡ false
 
     -- behind the end of a call it has to be at rest
-    behind : ToldByHistory held → (values : List ℕ) (replies : List Answer) (ls : List Lent) (g : Run.Given (Left S A)) → m.given ≡ g → GivesAction g →
-        EndsAs driver.values (ends_with 0 values) (begun_with sham.system g call l m (answering replies ls)) → (es : List (Event C)) × AtRest es
-    unfolding run_of out_after EndsAs
-    behind history values replies ls (Run.act shown) is begun run =
-        let later = subst (λ g. ended_as (ending_as driver.values g) (ends_with 0 values) (EndsAs driver.values (ends_with 0 values) (goes_on sham.system m.flash (answering replies ls)))) is run in
-        let r = stops sham.system driver.values (ends_with 0 values) replies ls m.flash (out_then m.given none) later in (
+    behind : ToldByHistory held → (left : Left S A) (replies : List Answer) (ls : List Lent) (g : Run.Given (Left S A)) → m.given ≡ g → GivesAction g →
+        left_by (told (begun_with sham.system g call l m (answering replies ls))) ≡ some left → (es : List (Event C)) × AtRest es
+    unfolding run_of out_after told
+    behind history left replies ls (Run.act shown) is begun run =
+        let later : left_by (told_then (Run.act shown) m.left.buffer (told (goes_on sham.system m.flash (answering replies ls)))) ≡ some left =
+        subst (λ g. left_by (told_then g m.left.buffer (told (goes_on sham.system m.flash (answering replies ls)))) ≡ some left) is run in
+        let r = stops sham.system left replies ls m.flash (out_then m.given none) later in (
           r.0,
           history.running sham.fresh call l r.0 history.at_rest
               ∙ ap (λ g. is_out (out_after none (begun_with sham.system g call l m r.0))) is
               ∙ ap is_out r.1,
         )
-    behind history values replies ls (Run.ended a) is begun run = absurd begun
-    behind history values replies ls (Run.failed e) is begun run = absurd begun
-    behind history values replies ls (Run.refused e) is begun run = absurd begun
+    behind history left replies ls (Run.ended a) is begun run = absurd begun
+    behind history left replies ls (Run.failed e) is begun run = absurd begun
+    behind history left replies ls (Run.refused e) is begun run = absurd begun
 
     ends : Promises held → (es : List (Event C)) × AtRest es
     unfolding run_of
@@ -281,7 +287,7 @@ module _ {F C S A : Type 0} (driver : Driver F C S A) (G : Type 0) (call : C) (l
         let begun = begins p.history p.same_as_rust in
         let well = p.within_bound.ends_well sham.fresh call l c.small begun (c.can (sham.setup sham.fresh)) in
         let ls = again well.replies l in
-        behind p.history well.values well.replies ls m.given refl begun
+        behind p.history well.left well.replies ls m.given refl begun
         (well.ends ls (again-length well.replies l) (again-lends well.replies (takes_at held call l) l c.ready))
 
   -- ---- bills

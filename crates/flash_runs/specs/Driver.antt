@@ -67,8 +67,6 @@ pub record Driver (F C S A : Type 0) : Type 0 where
   pub most_actions : S → C → ℕ → ℕ → ℕ
   -- whether the call, once begun, ends well on some replies
   pub can_end : S → C → ℕ → ℕ → Bool
-  -- an answer's values
-  pub values : A → List ℕ
   -- the commands whose data go to the caller
   pub reads : List ℕ → Bool
 

@@ -44,7 +44,6 @@ module _ {F C S A : Type 0} (driver : Driver F C S A) where
         delay_bound = bound;
         most_actions = driver.most_actions;
         can_end = driver.can_end;
-        values = driver.values;
         reads = driver.reads;
       }
 

@@ -1,11 +1,13 @@
 -- The delays and actions of a call over every run: it never asks more than its bound, some replies bring it there, it comes to an end and
 -- on some replies ends well (docs/SPECIFICATION.md, "Waits and bounds" and "Runs").
-use Rattle.std.specs.Prelude.{ℕ, ◌≤◌, true, false, ◌≡◌, List, [], ◌∷◌, length}
+use Rattle.std.specs.Prelude.{ℕ, ◌≤◌, true, false, ◌≡◌, List, length}
+use Rattle.std.proofs.Math.Option.{some}
 use Rattle.qspi.specs.Bytes.{AllBytes}
-use Rattle.spi_flash.specs.Ending.{Ending, goes, ends_with, ends_by}
 use Rattle.spi_flash.specs.Loan.{Lent}
-use Rattle.spi_flash.specs.Run.{Event, Entry, Given, act, ended, failed, refused, delay_asked, Fitting, HasEnded, Answer, RealReplies, answering, Lending}
+use Rattle.spi_flash.specs.Run.{Event, Given, act, ended, failed, refused, delay_asked, Fitting, HasEnded, Answer, RealReplies, answering, Lending}
+use Rattle.spi_flash.specs.Seen.{told}
 use Rattle.flash_runs.specs.Driver.{Left, Driver, takes_at, bound_at, most_actions_at, ends_at, run_at, steps_at}
+use Rattle.flash_runs.specs.SameAsRust.{left_by, rust_call}
 
 -- a call has begun when it gives out its first action
 abbrev pub GivesAction : {A : Type 0} → Given A → Type 0
@@ -18,22 +20,6 @@ GivesAction (refused e) = ⊥
 abbrev pub bill_of : {A : Type 0} → Given A → (bound : ℕ) → ℕ
 bill_of (act shown) bound = bound
 bill_of _ bound = 0
-
--- how a step has ended the call: the number and the values; with an action or a refusal the call goes on
-abbrev pub ending_as : {S A : Type 0} → (A → List ℕ) → Given (Left S A) → Ending
-ending_as values (act shown) = goes
-ending_as values (ended left) = ends_with 0 (values left.answer)
-ending_as values (failed error) = ends_by error
-ending_as values (refused error) = goes
-
--- the call has ended so
-abbrev pub ended_as : Ending → Ending → Type 0 → Type 0
-ended_as goes e later = later
-ended_as (ends_with number values) e later = ends_with number values ≡ e
-
-unfoldable pub EndsAs : {C S A : Type 0} → (A → List ℕ) → Ending → List (Entry C (Left S A)) → Type 0
-EndsAs values e [] = ⊥
-EndsAs values e (x ∷ xs) = ended_as (ending_as values x.given) e (EndsAs values e xs)
 
 module _ {F C S A : Type 0} (driver : Driver F C S A) where
   abbrev pub Begun : F → C → Lent → Type 0
@@ -48,13 +34,17 @@ module _ {F C S A : Type 0} (driver : Driver F C S A) where
     pub asks : (ls : List Lent) → length ls ≡ length replies → Lending (takes_at driver call l) l.given ls →
         delay_asked (run_at driver flash call l (answering replies ls)) ≡ b
 
-  -- replies on which the call ends well, with 0
+  -- fitting replies on which the call ends well, leaving what the program leaves on them: its answer, and the Rust's struct
   pub record EndsWell (flash : F) (call : C) (l : Lent) : Type 0 where
-    pub values : List ℕ
+    pub left : Left S A
     pub replies : List Answer
     pub real : RealReplies replies
+    pub fits : (ls : List Lent) → length ls ≡ length replies → Lending (takes_at driver call l) l.given ls →
+        Fitting (run_at driver flash call l (answering replies ls))
     pub ends : (ls : List Lent) → length ls ≡ length replies → Lending (takes_at driver call l) l.given ls →
-        EndsAs driver.values (ends_with 0 values) (run_at driver flash call l (answering replies ls))
+        left_by (told (run_at driver flash call l (answering replies ls))) ≡ some left
+    pub as_rust : (ls : List Lent) → length ls ≡ length replies → Lending (takes_at driver call l) l.given ls →
+        left_by (rust_call driver (driver.setup flash) call l (answering replies ls)) ≡ some left
 
   -- what the call may ask: nothing, where it is turned away or ends without an action
   abbrev pub bill_at : F → C → Lent → ℕ

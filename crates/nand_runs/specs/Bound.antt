@@ -1,4 +1,4 @@
--- The longest delay that a call asks (document 01: bill), and the most actions that it gives out.
+-- The largest sum of delays that a call asks for, and a number of actions that it does not pass (docs/SPECIFICATION.md, "Waits and bounds").
 use Rattle.std.specs.Prelude.{ℕ, ◌+◌, ◌*◌, ◌-◌, ◌/◌, eqb}
 use Rattle.qspi.specs.Choice.{pick}
 use Rattle.flash_runs.specs.Weight.{Figures, action_figures}
@@ -11,15 +11,15 @@ use Rattle.spi_nand.specs.declared.call.Call.{Call}
 use Rattle.spi_nand.specs.declared.setup.Setup.{Setup}
 use Rattle.nand_runs.specs.Program.{page_taken}
 
--- "NAND construction 520,000, but 500,000 with a page above 4,096"
+-- a construction that refuses the page ends once the id is known
 abbrev pub construction_bound : SpiNandConfig → ℕ
 construction_bound config = pick (page_taken config.geometry) 520000 500000
 
--- "`mark_bad_block` 1,600,005, but 400,000 with spare 0"
+-- without spare bytes there is no marker: the call ends once the page is loaded
 abbrev pub mark_bound : NandGeometry → ℕ
 mark_bound g = pick (eqb g.oob_size 0) 400000 1600005
 
--- "With length 1 or more it touches the pages from offset / page to (offset + length - 1) / page"
+-- the pages that a read touches (docs/SPECIFICATION.md, "Reads on the bus")
 abbrev pub first_touched : NandGeometry → ℕ → ℕ
 first_touched g offset = offset / g.page_size
 

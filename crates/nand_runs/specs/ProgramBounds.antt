@@ -1,5 +1,5 @@
 -- What the program of each call comes to: its bill is an upper bound and is reached, its actions are bounded, and it can end well
--- (document 01, "Bills").
+-- (docs/SPECIFICATION.md, "Waits and bounds").
 use Rattle.std.specs.Prelude.{ℕ, Bool, true, not, ◌≡◌, List, ltb, eqb, length}
 use Rattle.qspi.specs.Bytes.{AllBytes}
 use Rattle.spi_flash.specs.Path.{delays, actions, Bounded, Reaches, Ends}

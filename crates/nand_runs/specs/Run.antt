@@ -5,7 +5,6 @@ use Rattle.spi_flash.specs.declared.loan.Takes.{Takes}
 use Rattle.flash_runs.specs.Driver.{Sort, constructs, tells, releases, uses, Driver}
 use Rattle.flash_runs.specs.System.{system_of}
 use Rattle.spi_nand.specs.Config.{single_config}
-use Rattle.spi_nand.specs.Answer.{answer_values}
 use Rattle.spi_nand.specs.declared.answer.Answer.{Answer}
 use Rattle.spi_nand.specs.declared.call.Call.{Call}
 use Rattle.spi_nand.specs.declared.setup.Setup.{Setup}
@@ -68,6 +67,5 @@ nand_driver =
       delay_bound = λ setup call b d. delay_bound setup call b;
       most_actions = λ setup call b d. most_actions setup call b;
       can_end = λ setup call b d. can_end setup call;
-      values = answer_values;
       reads = reads_cache;
     }

@@ -7,7 +7,6 @@ use Rattle.flash_runs.specs.Driver.{Sort, constructs, tells, releases, uses, Dri
 use Rattle.flash_runs.specs.System.{system_of}
 use Rattle.flash_runs.specs.Promises.{Promises}
 use Rattle.spi_nor.specs.Config.{single_config}
-use Rattle.spi_nor.specs.Answer.{answer_values}
 use Rattle.spi_nor.specs.declared.answer.Answer.{Answer}
 use Rattle.spi_nor.specs.declared.setup.Setup.{Setup}
 use Rattle.nor_driver.specs.Step.{step_of, delivered_part}
@@ -67,10 +66,9 @@ nor_driver = record {
   delay_bound = λ flash call b d. delay_bound flash call d;
   most_actions = most_actions;
   can_end = λ flash call b d. can_end (sort_of call b d);
-  values = answer_values;
   reads = λ command. true;
 }
 
--- demands 1, 2 and 3
+-- what both drivers promise
 abbrev pub NorPromises : Type 0
 NorPromises = Promises nor_driver
