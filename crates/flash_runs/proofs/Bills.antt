@@ -13,7 +13,7 @@ use Rattle.qspi.specs.declared.frame.Exchanged.{Exchanged}
 use Rattle.qspi.specs.declared.frame.Frame.{Frame}
 use Rattle.spi_flash.specs.Loan.{Lent}
 use Rattle.spi_flash.specs.Prog.{Prog, ask}
-use Rattle.spi_flash.specs.Path.{Past, End, going, done, failed, spent, delays, actions, asked, Well, Bounded, Reaches, Ends}
+use Rattle.spi_flash.specs.Path.{Past, End, going, done, failed, spent, delays, actions, asked, Well, Bounded, Reaches, Ends, Never}
 use Rattle.spi_flash.specs.Run as Run
 use Rattle.spi_flash.specs.Seen.{told_then, told}
 use Rattle.spi_flash.specs.declared.loan.Takes.{Takes}
@@ -24,11 +24,13 @@ use Rattle.spi_flash.proofs.Reach.{reached}
 use Rattle.flash_runs.specs.Driver.{Left, Driver, takes_at, program_at, bound_at, most_actions_at, ends_at, run_at, steps_at}
 use Rattle.flash_runs.specs.SameAsRust.{left_by}
 use Rattle.flash_runs.specs.WithinBound.{GivesAction, bill_of, bill_at, ComesTo, EndsWell, WithinBound}
+use Rattle.flash_runs.specs.Watch.{Succeeded}
 use Rattle.flash_runs.proofs.General.{Parts, Place, decide_next}
 use Rattle.flash_runs.proofs.EndsAsRust.{lending-data, ends-as-rust}
 use Rattle.flash_runs.proofs.Supplies.{Asks, Supplies, Known}
 use Rattle.flash_runs.proofs.Judged.{refuses-just}
 use Rattle.flash_runs.proofs.Refusals.{refusals-keep}
+use Rattle.flash_runs.proofs.Least.{run-never}
 use Rattle.flash_runs.proofs.NoRun.{acts-alike, quiet-asked}
 use Rattle.flash_runs.proofs.Views.{shape, Opens, Nothing-begun, view, begun-opens, no_run, on_machine, opens-run, opens-call}
 
@@ -171,6 +173,18 @@ module _ {F C S A : Type 0} {driver : Driver F C S A} (known : Known driver) whe
               (rw (opens-call known flash o (answering r.0 ls)) (done ls n w));
         }
 
+    -- ---- or never
+
+    ends-never : Opened → ends_at driver flash c l ≡ false → (es : List (Event C)) → Succeeded (run_at driver flash c l es) → ⊥
+    unfolding Succeeded first_of
+    ends-never o cannot es e =
+        run-never known.Valid (decide_next parts) (takes_at driver c l) meaning supplies.simulates o.first o.at o.valid
+        (subst Never o.program (supplies.never s c b d o.bounds cannot)) es (rw (opens-run known flash o es) at e)
+
+    quiet-never : Nothing-begun known (shape known flash) c l → (es : List (Event C)) → Succeeded (run_at driver flash c l es) → ⊥
+    unfolding Succeeded
+    quiet-never n es e = rw (no_run known flash n es) at e
+
   -- ---- over the steps on a driver at rest
 
   module _ (flash : F) (c : C) (l : Lent) (es : List (Event C)) (free : driver.system.running flash ≡ false) where
@@ -198,5 +212,6 @@ module _ {F C S A : Type 0} {driver : Driver F C S A} (known : Known driver) whe
     without_run = λ flash c l es free silent. quiet-asked (refuses-just known) (refusals-keep driver parts known.is) flash c l free silent es;
     reached = λ flash c l small h. comes-to flash c l small (begun-opens known flash c l h);
     ends = λ flash c l es h fit long. run-has-ended flash c l es (begun-opens known flash c l h) fit long;
+    never_ends = λ flash c l es cannot e. ⊎_elim (λ n. quiet-never flash c l n es e) (λ o. ends-never flash c l o cannot es e) (view known flash c l);
     ends_well = λ flash c l small h can. comes-well flash c l small can (begun-opens known flash c l h);
   }

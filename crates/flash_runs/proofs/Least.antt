@@ -9,16 +9,21 @@ use Rattle.qspi.specs.declared.frame.Exchanged.{Exchanged}
 use Rattle.spi_flash.specs.declared.loan.Takes.{Takes}
 use Rattle.spi_flash.specs.Loan.{Lent}
 use Rattle.spi_flash.specs.Prog.{Prog, ask}
-use Rattle.spi_flash.specs.Path.{Past, End, going, done, failed, IfWell, spent, asked, delays, AtLeast}
+use Rattle.spi_flash.specs.Path.{Past, End, going, done, failed, IfWell, spent, asked, delays, AtLeast, Never}
 use Rattle.spi_flash.specs.Run.{Event, reply, call, Moved, goes_on, delay_asked}
 use Rattle.spi_flash.specs.Machine.{Decision, more, well, bad, Config, out, lent_as, settle, moved, machine, Simulates, Trail, decided_trail, heard_trail, trail}
 use Rattle.spi_flash.proofs.Runs.{heard-view, every-trail, trail-asks}
+use Rattle.spi_flash.proofs.Laws.{if-well-mono}
 use Rattle.flash_runs.specs.Watch.{succeeded_then, Succeeded}
 
 abbrev IsDone : {A : Type 0} → End A → Type 0
 IsDone (going t) = ⊥
 IsDone (done a) = Unit {0}
 IsDone (failed e) = ⊥
+
+-- any figure is the least of a good end that there is none of
+never-least : {A : Type 0} {b : ℕ} (p : Prog A) → Never p → AtLeast delays b p
+never-least {b = b} p h = record { least = if-well-mono p (λ a xs. ⊥) (λ a xs. b ≤ spent delays xs) (λ a xs n. absurd n) h.never }
 
 at_least : {A : Type 0} {b : ℕ} (past : List Past) (stop : End A) → IsDone stop → IfWell (λ a xs. b ≤ spent delays xs) past stop → b ≤ asked delays past stop
 at_least past (going t) d h = absurd d
@@ -58,3 +63,11 @@ module _ {S A C : Type 0} (Valid : S → Type 0) (next : S → Outcome → Decis
       let long : b ≤ asked delays x.past x.stop =
       at_least x.past x.stop (succeeds next k s f es e) (every-trail Valid next k meaning sim s f (IfWell (λ a xs. b ≤ spent delays xs)) w h.least es) in
       omega (arith, trail-asks {C = C} next k s f es)
+
+  -- a program that never ends well
+  pub run-never : (t : Transfer) (s : S) → Valid s → Never (ask t (meaning s)) → (es : List (Event C)) →
+      Succeeded (goes_on (machine next C) (out k s (first_of t)) es) → ⊥
+  run-never t s w h es e =
+      let b = delays t + delay_asked (goes_on (machine next C) (out k s (first_of t)) es) + 1 in
+      let least = run-least t s w (never-least {b = b} (ask t (meaning s)) h) es e in
+      omega arith

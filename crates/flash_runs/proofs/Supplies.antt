@@ -12,7 +12,7 @@ use Rattle.qspi.specs.ShownBytes.{start_shown}
 use Rattle.qspi.specs.Frame.{Outcome}
 use Rattle.spi_flash.specs.Loan.{Lent}
 use Rattle.spi_flash.specs.Machine.{Onward, Simulates, tree}
-use Rattle.spi_flash.specs.Path.{delays, actions, Bounded, Reaches, Ends}
+use Rattle.spi_flash.specs.Path.{delays, actions, Bounded, Reaches, Ends, Never}
 use Rattle.spi_flash.specs.Prog.{Prog, ret, ask}
 use Rattle.spi_flash.specs.Run.{Moved}
 use Rattle.spi_flash.specs.Seen.{select_after}
@@ -141,6 +141,7 @@ module _ {F C S P A : Type 0} (driver : Driver F C S A) (parts : Parts S P A C) 
         Reaches given delays (driver.delay_bound s c b (length given)) (driver.program s c b (length given))
     pub ends_well : (s : S) (c : C) (b : ℕ) (given : List ℕ) → Bounds driver s c b (length given) → AllBytes given → Asks (driver.program s c b (length given)) →
         driver.can_end s c b (length given) ≡ true → (n : ℕ) × (left : Left S A) × Ends given delays n left (driver.program s c b (length given))
+    pub never : (s : S) (c : C) (b d : ℕ) → Bounds driver s c b d → driver.can_end s c b d ≡ false → Never (driver.program s c b d)
     pub lent : (s : S) (c : C) (b d : ℕ) → Bounds driver s c b d → LendsAs driver s c b d (takes_of (driver.sort c b d))
     pub dataless : (s : S) (c : C) (b d : ℕ) → Bounds driver s c b d → LooksAs driver s c b d (takes_of (driver.sort c b d))
 

@@ -8,6 +8,7 @@ use Rattle.spi_flash.specs.Run.{Event, Given, act, ended, failed, refused, delay
 use Rattle.spi_flash.specs.Seen.{told}
 use Rattle.flash_runs.specs.Driver.{Left, Driver, takes_at, bound_at, most_actions_at, ends_at, run_at, steps_at}
 use Rattle.flash_runs.specs.SameAsRust.{left_by, rust_call}
+use Rattle.flash_runs.specs.Watch.{Succeeded}
 
 -- a call has begun when it gives out its first action
 abbrev pub GivesAction : {A : Type 0} → Given A → Type 0
@@ -64,5 +65,6 @@ module _ {F C S A : Type 0} (driver : Driver F C S A) where
     -- it comes to an end on every list of fitting replies that is as long as its number of actions
     pub ends : (flash : F) (call : C) (l : Lent) (es : List (Event C)) → Begun flash call l →
         Fitting (run_at driver flash call l es) → most_actions_at driver flash call l ≤ length es → HasEnded (run_at driver flash call l es)
-    -- every begun call ends well on some replies, but those that cannot
+    -- every call that has begun ends well on some replies, but for those that never do
     pub ends_well : (flash : F) (call : C) (l : Lent) → AllBytes l.given → Begun flash call l → ends_at driver flash call l ≡ true → EndsWell flash call l
+    pub never_ends : (flash : F) (call : C) (l : Lent) (es : List (Event C)) → ends_at driver flash call l ≡ false → Succeeded (run_at driver flash call l es) → ⊥

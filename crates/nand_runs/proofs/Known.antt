@@ -1,11 +1,11 @@
 -- All that is known of the NAND driver: it is the general driver, and what its calls' programs come to.
 use Prim.Native.Nat.{ℕ}
-use mathlib.Core.Bool.{true}
-use mathlib.Core.Path.{◌≡◌, refl, sym, subst}
+use mathlib.Core.Bool.{true, false}
+use mathlib.Core.Path.{◌≡◌, refl, sym, ◌∙◌, subst}
 use mathlib.Core.List.{List}
 use lib.ListN.{length}
 use Rattle.qspi.specs.Bytes.{AllBytes}
-use Rattle.spi_flash.specs.Path.{delays, actions, Bounded, Reaches, Ends}
+use Rattle.spi_flash.specs.Path.{delays, actions, Bounded, Reaches, Ends, Never}
 use Rattle.flash_runs.specs.Driver.{works_on}
 use Rattle.flash_runs.proofs.Supplies.{Asks, Bounds, Supplies, Known}
 use Rattle.spi_nand.specs.declared.call.Call.{Call}
@@ -81,6 +81,11 @@ module _ (s : Setup) (c : Call) (b : ℕ) where
       subst (λ n. Bounded actions n (program_of s c b d)) same.acts
       (subst (Bounded actions (most_actions (works_on (sort_of c b d) s) c b)) same.program (program-bounds.acts (works_on (sort_of c b d) s) h c b d))
 
+  never : (d : ℕ) → Within d → can_end s c ≡ false → Never (program_of s c b d)
+  never d h cannot =
+      let same = same-work s c b d in
+      subst Never same.program (program-bounds.never_ends (works_on (sort_of c b d) s) h c b d (same.ends ∙ cannot))
+
   module _ (given : List ℕ) (h : Within (length given)) (small : AllBytes given) (asks : Asks (program_of s c b (length given))) where
     abbrev held : Setup
     held = works_on (sort_of c b (length given)) s
@@ -111,6 +116,7 @@ supplies = record {
   acts = λ s c b d h. acts s c b d h;
   reached = λ s c b given h small asks. reached s c b given h small asks;
   ends_well = λ s c b given h small asks can. ends-well s c b given h small asks can;
+  never = λ s c b d h cannot. never s c b d h cannot;
   lent = lent;
   dataless = dataless;
 }

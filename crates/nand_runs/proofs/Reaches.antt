@@ -12,7 +12,7 @@ use Rattle.qspi.specs.declared.transfer.Sink.{Sink}
 use Rattle.qspi.proofs.Cases.{by_cases}
 use Rattle.spi_flash.specs.Prog.{◌>>◌}
 use Rattle.spi_flash.specs.Path.{delays, Reaches, Ends, Never}
-use Rattle.spi_flash.proofs.Laws.{ends-ret, ends-bind, ends-then, ends-eq, ends-reaches, reaches-never, never-left, never-then}
+use Rattle.spi_flash.proofs.Laws.{ends-ret, ends-bind, ends-then, ends-eq, ends-reaches, reaches-never, never-fail, never-left, never-then}
 use Rattle.spi_flash.proofs.Replies.{delivery}
 use Rattle.flash_runs.specs.Driver.{leaving}
 use Rattle.spi_nand.specs.Config.{single_config, in_bounds}
@@ -20,7 +20,7 @@ use Rattle.spi_nand.specs.declared.answer.Answer.{Answer}
 use Rattle.spi_nand.specs.declared.call.Call.{Call}
 use Rattle.spi_nand.specs.declared.setup.Setup.{Setup}
 use Rattle.nand_runs.specs.Rust.{mark-bad-block, constructed}
-use Rattle.nand_runs.specs.Program.{Left, rust_program, program_of}
+use Rattle.nand_runs.specs.Program.{Left, rust_program, program_of, refused-page}
 use Rattle.nand_runs.specs.Bound.{delay_bound}
 use Rattle.nand_runs.specs.ProgramBounds.{Begins, can_end}
 use Rattle.nand_runs.proofs.Bounds.{never-is-bad}
@@ -74,6 +74,17 @@ module _ (flash : Setup) (bounds : in_bounds flash.geometry ≡ true) where
   never-mark : (block : ℕ) → flash.geometry.oob_size ≡ 0 → Never (mark-bad-block flash block)
   unfolding mark-bad-block
   never-mark block none = never-then _ (never-left _ (never-is-bad flash bounds block none))
+
+  never-refused-page : Never refused-page
+  unfolding refused-page
+  never-refused-page = never-then _ (never-then _ never-fail)
+
+  pub never : (call : Call) (b d : ℕ) → can_end flash call ≡ false → Never (program_of flash call b d)
+  unfolding rust_program ◌>>◌
+  never (Call.WithConfig config) b d c = rw c never-refused-page
+  never (Call.IsBadBlock block) b d c = never-left _ (never-is-bad flash bounds block (no-spare c))
+  never (Call.MarkBadBlock block) b d c = never-left _ (never-mark block (no-spare c))
+  never _ b d c = absurd (true≢false c)
 
   -- a call that cannot end well comes to its bill where it fails
   stopped : (call : Call) (b : ℕ) (given : List ℕ) → Begins flash call b (length given) → can_end flash call ≡ false →

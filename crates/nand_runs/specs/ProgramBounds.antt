@@ -1,8 +1,8 @@
 -- What the program of each call comes to: its bill is an upper bound and is reached, its actions are bounded, and it can end well
 -- (docs/SPECIFICATION.md, "Waits and bounds").
-use Rattle.std.specs.Prelude.{ℕ, Bool, true, not, ◌≡◌, List, ltb, eqb, length}
+use Rattle.std.specs.Prelude.{ℕ, Bool, true, false, not, ◌≡◌, List, ltb, eqb, length}
 use Rattle.qspi.specs.Bytes.{AllBytes}
-use Rattle.spi_flash.specs.Path.{delays, actions, Bounded, Reaches, Ends}
+use Rattle.spi_flash.specs.Path.{delays, actions, Bounded, Reaches, Ends, Never}
 use Rattle.spi_nand.specs.Config.{in_bounds, page_count_of}
 use Rattle.spi_nand.specs.Transfer.{in_cache, in_range}
 use Rattle.spi_nand.specs.declared.call.Call.{Call}
@@ -92,6 +92,7 @@ pub record ProgramBounds : Type 0 where
   -- no path gives out more actions
   pub acts : (flash : Setup) → in_bounds flash.geometry ≡ true → (call : Call) (b d : ℕ) →
       Bounded actions (most_actions flash call b) (program_of flash call b d)
-  -- some path ends well
+  -- some path ends well, or none can
   pub ends_well : (flash : Setup) → in_bounds flash.geometry ≡ true → (call : Call) (b : ℕ) (given : List ℕ) → AllBytes given →
       Begins flash call b (length given) → can_end flash call ≡ true → (n : ℕ) × (left : Left) × Ends given delays n left (program_of flash call b (length given))
+  pub never_ends : (flash : Setup) → in_bounds flash.geometry ≡ true → (call : Call) (b d : ℕ) → can_end flash call ≡ false → Never (program_of flash call b d)

@@ -16,7 +16,7 @@ use Rattle.nor_runs.proofs.Simulation.{meaning, simulates}
 use Rattle.nor_runs.proofs.Agrees.{same}
 use Rattle.nor_runs.proofs.Openings.{opened, alike}
 use Rattle.nor_runs.proofs.Bounds.{bounded, acts}
-use Rattle.nor_runs.proofs.Reaches.{ends, reached}
+use Rattle.nor_runs.proofs.Reaches.{ends, never, reached}
 use Rattle.nor_runs.proofs.Unread.{lent, dataless}
 use Rattle.nor_runs.proofs.Is.{nor-is}
 
@@ -36,6 +36,7 @@ supplies = record {
   reached = λ flash call b given inside small asks. let e = same flash call b (length given) inside in rw e (reached flash call b given inside small (rw e at asks));
   ends_well = λ flash call b given inside small asks can. let e = same flash call b (length given) inside in
       let ended = ends flash call b given inside small (rw e at asks) can in (delay_bound flash call (length given), ended.0, rw e ended.1);
+  never = λ flash call b d inside cannot. rw (same flash call b d inside) (never flash call b d cannot);
   lent = lent;
   dataless = dataless;
 }

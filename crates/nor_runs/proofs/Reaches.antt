@@ -4,7 +4,7 @@ use Rattle.spi_nor.specs.declared.config.NorDeviceInfo.{NorDeviceInfo}
 use Prim.Native.Nat.{ℕ, zero, suc, ◌+◌, ◌-◌, ◌*◌, ◌/◌, ◌%◌, ◌≤◌, ◌<◌}
 use native.Mathlib.Omega.{arith}
 use native.Mathlib.Nat.{div-add-mod', mod-eq_of_lt}
-use mathlib.Core.Bool.{Bool, true, false, not}
+use mathlib.Core.Bool.{Bool, true, false, not, true≢false}
 use mathlib.Core.Path.{◌≡◌, refl, ap}
 use mathlib.Core.List.{List}
 use lib.Dec.{ltb, lit<}
@@ -15,9 +15,9 @@ use Rattle.qspi.specs.declared.transfer.Sink.{Sink}
 use Rattle.std.specs.Prelude.{if◌then◌else◌, Option, Some, None}
 use Rattle.spi_flash.specs.Prog.{Prog, ret, ◌>>=◌, ◌>>◌, refuse, transfer}
 use Rattle.qspi.specs.Bytes.{AllBytes, byte_of}
-use Rattle.spi_flash.specs.Path.{Answers, delays, Reaches, Ends}
+use Rattle.spi_flash.specs.Path.{Answers, delays, Reaches, Ends, Never}
 use Rattle.qspi.proofs.Cases.{by_cases}
-use Rattle.spi_flash.proofs.Laws.{ends-ret, ends-bind, ends-then, ends-eq, ends-transfer, ends-refuse, ends-guard, ends-reaches}
+use Rattle.spi_flash.proofs.Laws.{ends-ret, ends-bind, ends-then, ends-eq, ends-transfer, ends-refuse, ends-guard, ends-reaches, never-left, never-right, never-then, never-refused}
 use Rattle.spi_flash.proofs.Loops.{ends-loop}
 use Rattle.spi_flash.proofs.Replies.{byte, zeros, delivery, same_bytes}
 use Rattle.flash_runs.proofs.Supplies.{Asks, Bounds}
@@ -247,6 +247,21 @@ module _ (given : List ℕ) where
   unfolding with-config device_for refuse ◌>>◌ ◌>>=◌
   refused-with-config config h f =
       rw h (record { reach = (0, refl, (0, zeros given 3, rw (page-refused config.device h) refl)) })
+
+-- whatever the id
+page-over : (device : Option NorDeviceInfo) (v : ℕ) → page_taken device ≡ false → ltb 512 (device_at device (given_at device) (id_of v)).page_size ≡ true
+page-over None v h = cc
+page-over (Some device) v h = lt-ltb 512 device.page_size (leb-false device.page_size 512 h)
+
+never-with-config : (config : SpiNorConfig) → page_taken config.device ≡ false → Never (with-config config)
+unfolding with-config device_for
+never-with-config config h = never-then _ (never-right _ (λ v. never-refused _ _ _ (page-over config.device v h)))
+
+-- that construction alone never ends well
+pub never : (flash : Setup) (call : Call) (b d : ℕ) → can_end (sort_of call b d) ≡ false → Never (coded flash call b d)
+unfolding coded
+never flash (Call.WithConfig config) b d c = never-left _ (never-with-config config c)
+never flash _ b d c = absurd (true≢false c)
 
 -- every call that begins comes to its bill at a good end, but for a construction with too large a page
 pub ends : (flash : Setup) (call : Call) (b : ℕ) (given : List ℕ) → Bounds nor_driver flash call b (length given) → AllBytes given → Asks (coded flash call b (length given)) →
