@@ -29,7 +29,7 @@ use Rattle.nand_runs.specs.Chip.{Chip, byte_at, cached_page, HoldsAt, Answers, a
 use Rattle.nand_runs.proofs.Pages.{some-page}
 use Rattle.nand_runs.proofs.ReadBack.{reading, writes-same}
 use Rattle.nand_runs.proofs.SeenPages.{blank, loads-page, reads-cache, reads-page, writes-page}
-use Rattle.nand_runs.proofs.SeenCalls.{loaded, verdict_noted, bytes_came, Sights, at, watcher, Q}
+use Rattle.nand_runs.proofs.SeenCalls.{loaded, programmed, verdict_noted, bytes_came, Sights, at, watcher, Q}
 use Rattle.nand_runs.specs.Program.{Left}
 use Rattle.nand_runs.specs.Observer.{reads_cache, Load, unloaded, waiting, waited, judged, judged_page, Awaited, other, status, cache, ReadByte, Sight, unseen, looked, bytes_at, recorded, heard_as, answered, observer}
 use Rattle.nand_runs.specs.ReadSeen.{placed, sight_of, read_so_far}
@@ -259,7 +259,7 @@ module _ (flash : SpiNandFlash) (page : ℕ) (l : Lent) (es : List (Event Call))
 
   -- what has come of the page, and how it is seen
   abbrev Came : Sights → Type 0
-  Came y = (new : List ℕ) × (verdict : ℕ) × (length new ≡ size) × (eqb verdict 2 ≡ false) × (y ≡ at true (judged page) (bytes_came page 0 new (verdict_noted verdict (loaded page blank))))
+  Came y = (new : List ℕ) × (verdict : ℕ) × (length new ≡ size) × (eqb verdict 2 ≡ false) × (y ≡ at true (judged page) (bytes_came page 0 new (verdict_noted verdict (loaded page (programmed page blank)))))
 
   abbrev Written : Sights → Type 0
   Written y = (length l.given ≡ size) × (1 ≤ size) × Came y
@@ -304,6 +304,7 @@ module _ (flash : SpiNandFlash) (page : ℕ) (l : Lent) (es : List (Event Call))
 
   read-back : ReadBack nand_driver flash page l es
   read-back = record {
+    programs = ap (λ (z : Sights). z.0.programs) came.4;
     loads = ap (λ (z : Sights). z.0.loads) came.4;
     reads = reads-are;
     same = λ same. reads-are ∙ ap (bytes_at page 0) (data-beside same);

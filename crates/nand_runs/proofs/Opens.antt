@@ -5,7 +5,6 @@ use Rattle.spi_nand.specs.declared.config.NandQuadConfig.{NandQuadConfig}
 use Prim.Native.Nat.{ℕ}
 use mathlib.Core.Bool.{Bool, true, false}
 use mathlib.Core.Path.{◌≡◌, refl}
-use mathlib.Core.List.{List}
 use lib.ListN.{length}
 use lib.Dec.{ltb, eqb}
 use Rattle.qspi.specs.Choice.{pick}

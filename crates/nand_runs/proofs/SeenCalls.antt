@@ -87,15 +87,19 @@ pub record Tally : Type 0 where
   pub verdicts : List ℕ
   pub reads : List ReadByte
   pub bytes : List ℕ
+  pub programs : List ℕ
 
 abbrev pub loaded : ℕ → Tally → Tally
-loaded page t = record { loads = t.loads ++ page ∷ []; verdicts = t.verdicts; reads = t.reads; bytes = t.bytes }
+loaded page t = record { loads = t.loads ++ page ∷ []; verdicts = t.verdicts; reads = t.reads; bytes = t.bytes; programs = t.programs }
 
 abbrev pub verdict_noted : ℕ → Tally → Tally
-verdict_noted verdict t = record { loads = t.loads; verdicts = t.verdicts ++ verdict ∷ []; reads = t.reads; bytes = t.bytes }
+verdict_noted verdict t = record { loads = t.loads; verdicts = t.verdicts ++ verdict ∷ []; reads = t.reads; bytes = t.bytes; programs = t.programs }
 
 abbrev pub bytes_came : ℕ → ℕ → List ℕ → Tally → Tally
-bytes_came page column new t = record { loads = t.loads; verdicts = t.verdicts; reads = t.reads ++ bytes_at page column new; bytes = t.bytes ++ new }
+bytes_came page column new t = record { loads = t.loads; verdicts = t.verdicts; reads = t.reads ++ bytes_at page column new; bytes = t.bytes ++ new; programs = t.programs }
+
+abbrev pub programmed : ℕ → Tally → Tally
+programmed page t = record { loads = t.loads; verdicts = t.verdicts; reads = t.reads; bytes = t.bytes; programs = t.programs ++ page ∷ [] }
 
 abbrev pub Sights : Type 0
 Sights = Sight × Got
@@ -103,7 +107,7 @@ Sights = Sight × Got
 -- with whose data the last command asked for
 abbrev pub at : Bool → Load → Tally → Sights
 at mine load t =
-    (record { frame = closed; awaited = other; load = load; loads = t.loads; verdicts = t.verdicts; reads = t.reads; in_order = true }, got mine t.bytes)
+    (record { frame = closed; awaited = other; load = load; loads = t.loads; verdicts = t.verdicts; reads = t.reads; programs = t.programs; in_order = true }, got mine t.bytes)
 
 abbrev pub watcher : Watcher Sights
 watcher = both observer (reader reads_cache)
@@ -134,7 +138,7 @@ module _ (R : List ℕ → List ReadByte → List ℕ → Bool → Type 0) where
     pause mine load us = shows-transfer watcher Q (Transfer.Pause us) (q, (q, refl))
 
     -- a status byte; nothing was judged unless the load's wait had ended
-    look : (mine : Bool) (load : Load) → Sees (λ v y. y ≡ at false (load_after load v) (record { loads = t.loads; verdicts = verdicts_after load v t.verdicts; reads = t.reads; bytes = t.bytes }))
+    look : (mine : Bool) (load : Load) → Sees (λ v y. y ≡ at false (load_after load v) (record { loads = t.loads; verdicts = verdicts_after load v t.verdicts; reads = t.reads; bytes = t.bytes; programs = t.programs }))
         (at mine load t) (transfer (register_transfer REG-STATUS))
     look mine load =
         shows-transfer watcher Q (register_transfer REG-STATUS)
@@ -225,13 +229,23 @@ module _ (R : List ℕ → List ReadByte → List ℕ → Bool → Type 0) where
     loading-data flash column n payload =
         idle-then (idle-refuse _ _) (idle-then (loads-data flash.config.quad column payload) (λ mine. shows-ret watcher Q (mine, refl)))
 
-    pub executing : (flash : Setup) (page : ℕ) → Idle (program-execute flash page)
+  -- ---- a program
+
+  module _ (page : ℕ) (small : page < 16777216) (t : Tally) (q : Right t) where
+    program-sent : (mine : Bool) → To (at false unloaded (programmed page t)) (at mine unloaded t) (transfer (command_only (program_execute_command page)))
+    program-sent mine =
+        let sent : read_from 0 (address page) ≡ page = address-exact page small in
+        subst (λ p. To (at false unloaded (programmed p t)) (at mine unloaded t) (transfer (command_only (program_execute_command page)))) sent
+        (shows-transfer watcher Q (command_only (program_execute_command page)) (q, (q, (q, (q, refl)))))
+
+    pub executing : (flash : Setup) (mine : Bool) → Sees (Unloaded (programmed page t) q) (at mine unloaded t) (program-execute flash page)
     unfolding program-execute
-    executing flash page =
-        idle-then (idle-refuse _ _)
-        (idle-then (λ mine. shows-transfer watcher Q (command_only (program_execute_command page)) (q, (q, (q, (q, (false, refl))))))
-        (idle-then (idle-wait Operation.Program)
-        (λ mine. shows-bind watcher Q (idle-status mine) (λ status y e. from e (idle-refuse _ _ false)))))
+    executing flash =
+        let done = programmed page t in
+        idle-then t q (idle-refuse t q _ _)
+        (λ mine. to-then (program-sent mine)
+        (idle-then done q (idle-wait done q Operation.Program)
+        (λ m. shows-bind watcher Q (idle-status done q m) (λ status y e. from e (idle-refuse done q _ _ false))) false))
 
   -- ---- a load, and its verdict
 

@@ -19,11 +19,11 @@ use Rattle.spi_nand.specs.declared.setup.Setup.{Setup}
 use Rattle.spi_nand.proofs.Geometries.{geometries-hold}
 use Rattle.nand_runs.specs.Observer.{Load, unloaded, judged, ReadByte, bytes_at}
 use Rattle.nand_runs.specs.Rust.{page-read, read-cache, read-page, write-page}
-use Rattle.nand_runs.proofs.SeenCalls.{watcher, Tally, loaded, verdict_noted, bytes_came, Sights, at, watcher, Q, Right, Sees, from, loading-page, reading-cache, idle-then, idle-refuse, enabling, loading-data, executing}
+use Rattle.nand_runs.proofs.SeenCalls.{watcher, Tally, loaded, programmed, verdict_noted, bytes_came, Sights, at, watcher, Q, Right, Sees, from, loading-page, reading-cache, idle-then, enabling, loading-data, executing}
 
 -- before a call: nothing was seen
 abbrev pub blank : Tally
-blank = record { loads = []; verdicts = []; reads = []; bytes = [] }
+blank = record { loads = []; verdicts = []; reads = []; bytes = []; programs = [] }
 
 module _ (flash : Setup) (bounds : in_bounds flash.geometry ≡ true) (page : ℕ) where
   small : ltb page (page_count_of flash.geometry) ≡ true → page < 16777216
@@ -86,17 +86,22 @@ module _ (flash : Setup) (bounds : in_bounds flash.geometry ≡ true) (page : �
   abbrev Any : List ℕ → List ReadByte → List ℕ → Bool → Type 0
   Any loads reads bytes order = Unit {0}
 
-  pub writes-page : (n : ℕ) → Sees Any (λ u y. (n ≡ flash.geometry.page_size) × ((v : ℕ) × PageRead flash.geometry.page_size (Sink.Compare 0) blank v y)) (at false unloaded blank) (write-page flash page n)
+  pub writes-page : (n : ℕ) → Sees Any (λ u y. (n ≡ flash.geometry.page_size) × ((v : ℕ) × PageRead flash.geometry.page_size (Sink.Compare 0) (programmed page blank) v y))
+      (at false unloaded blank) (write-page flash page n)
   unfolding write-page
   writes-page n =
       let size = flash.geometry.page_size in
+      let fits = ltb page (page_count_of flash.geometry) in
+      let done = programmed page blank in
       shows_then watcher (Q Any) {E = λ u y. (n ≡ size) × (y ≡ at false unloaded blank)}
       (shows-refuse watcher (Q Any) (not (eqb n size)) _ (λ e. (eqb-true n size (sym (not-not _) ∙ ap not e), refl)))
       (λ u y whole. from Any whole.1
-      (idle-then Any blank tt (idle-refuse Any blank tt _ _)
+      (shows_then watcher (Q Any) {E = λ u y. (fits ≡ true) × (y ≡ at false unloaded blank)}
+      (shows-refuse watcher (Q Any) (not fits) _ (λ e. (sym (not-not _) ∙ ap not e, refl)))
+      (λ u y inside. from Any inside.1
       (idle-then Any blank tt (enabling Any blank tt)
       (idle-then Any blank tt (loading-data Any blank tt flash 0 n (Payload.Data 0 n))
-      (idle-then Any blank tt (executing Any blank tt flash page)
-      (λ mine. shows-bind watcher (Q Any) (reads-page size (Sink.Compare 0) Any blank tt tt (λ new e. tt) mine unloaded)
-      (λ v y h. shows-refuse watcher (Q Any) (eqb v 0) _ (λ e. (whole.0, (v, h))))))))
-      false))
+      (λ mine. shows_then watcher (Q Any) (executing Any page (small inside.0) blank tt flash mine)
+      (λ u y sent. from Any sent.1
+      (shows-bind watcher (Q Any) (reads-page size (Sink.Compare 0) Any done tt tt (λ new e. tt) sent.0 unloaded)
+      (λ v y h. shows-refuse watcher (Q Any) (eqb v 0) _ (λ e. (whole.0, (v, h)))))))) false))))

@@ -94,7 +94,7 @@ module _ (flash : Setup) (bounds : in_bounds flash.geometry ≡ true) (offset le
 
   -- i pages were loaded, and so far these verdicts and bytes have come
   abbrev tally : ℕ → List ℕ → List ℕ → Tally
-  tally i verdicts bytes = record { loads = up_from first i; verdicts = verdicts; reads = placed g offset bytes; bytes = bytes }
+  tally i verdicts bytes = record { loads = up_from first i; verdicts = verdicts; reads = placed g offset bytes; bytes = bytes; programs = [] }
 
   module _ (within : offset + len ≤ pages g bounds * g.page_size) where
     abbrev left : ℕ → ℕ

@@ -76,7 +76,8 @@ module _ {F : Type 0} (driver : Driver F Call Setup Answer) where
 
     -- where it has ended well
     pub record ReadBack : Type 0 where
-      -- that page alone was loaded, and read from column 0 on behind its verdict: the data, as they were lent beside them
+      -- that page alone was programmed, then loaded, and read from column 0 on behind its verdict: the data, as they were lent beside them
+      pub programs : (sight_of write_steps).programs ≡ page ∷ []
       pub loads : (sight_of write_steps).loads ≡ page ∷ []
       pub reads : (sight_of write_steps).reads ≡ bytes_at page 0 (take (length l.given) (watched lent_beside [] write_steps))
       -- with the same data lent throughout these are the data

@@ -7,14 +7,14 @@ use Rattle.qspi.specs.Choice.{pick}
 use Rattle.qspi.specs.Shown.{Shown, low, high, write, read, quad_read, quad_write, delay}
 use Rattle.spi_flash.specs.Bits.{is_clear}
 use Rattle.flash_runs.specs.Watch.{Watcher, BusFrame, closed, selected, commanded, frame_after, command_in}
-use Rattle.spi_nand.specs.Opcode.{GET-FEATURE, REG-STATUS, PAGE-READ, READ-CACHE}
+use Rattle.spi_nand.specs.Opcode.{GET-FEATURE, REG-STATUS, PAGE-READ, PROGRAM-EXECUTE, READ-CACHE}
 
 -- ---- what a command is, by its bytes
 
--- "A load is the write, given out, of command 13 and the page's three address bytes"
-abbrev pub load_of : List ℕ → Option ℕ
-load_of [] = none
-load_of (opcode ∷ address) = pick (eqb opcode PAGE-READ && eqb (length address) 3) (some (read_from 0 address)) none
+-- the page in the three address bytes behind this opcode: a load is 13 with them, a program 10
+abbrev pub page_behind : ℕ → List ℕ → Option ℕ
+page_behind wanted [] = none
+page_behind wanted (opcode ∷ address) = pick (eqb opcode wanted && eqb (length address) 3) (some (read_from 0 address)) none
 
 -- "a read whose frame's write was 0F C0"
 abbrev pub asks_status : List ℕ → Bool
@@ -69,12 +69,14 @@ pub record Sight : Type 0 where
   pub loads : List ℕ
   pub verdicts : List ℕ
   pub reads : List ReadByte
+  -- the pages programmed
+  pub programs : List ℕ
   -- no action, so no load, was given out before the reply to a read of the cache
   pub in_order : Bool
 
 -- before a run
 abbrev pub unseen : Sight
-unseen = record { frame = closed; awaited = other; load = unloaded; loads = []; verdicts = []; reads = []; in_order = true }
+unseen = record { frame = closed; awaited = other; load = unloaded; loads = []; verdicts = []; reads = []; programs = []; in_order = true }
 
 -- ---- an action is given out
 
@@ -87,23 +89,26 @@ written_by (quad_read command tclqv margin n) = []
 written_by (quad_write command payload) = []
 written_by (delay us) = []
 
--- a load is the first write since select went low: a caller's data may begin with 13
-abbrev pub load_in : BusFrame → List ℕ → Option ℕ
-load_in closed bytes = none
-load_in selected bytes = load_of bytes
-load_in (commanded command) bytes = none
+-- either is the first write since select went low: a caller's data may begin with 13 or 10
+abbrev pub page_in : ℕ → BusFrame → List ℕ → Option ℕ
+page_in wanted closed bytes = none
+page_in wanted selected bytes = page_behind wanted bytes
+page_in wanted (commanded command) bytes = none
 
 abbrev pub load_by : Shown → Sight → Option ℕ
-load_by shown s = load_in s.frame (written_by shown)
+load_by shown s = page_in PAGE-READ s.frame (written_by shown)
+
+abbrev pub program_by : Shown → Sight → Option ℕ
+program_by shown s = page_in PROGRAM-EXECUTE s.frame (written_by shown)
 
 -- "each load starts the automaton anew"
 abbrev pub last_load : Option ℕ → Load → Load
 last_load none load = load
 last_load (some page) load = waiting page
 
-abbrev pub with_load : Option ℕ → List ℕ → List ℕ
-with_load none pages = pages
-with_load (some page) pages = pages ++ page ∷ []
+abbrev pub with_page : Option ℕ → List ℕ → List ℕ
+with_page none pages = pages
+with_page (some page) pages = pages ++ page ∷ []
 
 abbrev pub read_awaits : List ℕ → Load → Awaited
 read_awaits command load = pick (asks_status command) status (pick (reads_cache command) (cache (column_of command) load) other)
@@ -128,9 +133,10 @@ given_out shown s =
       frame = frame_after shown s.frame;
       awaited = awaited_by shown s;
       load = last_load (load_by shown s) s.load;
-      loads = with_load (load_by shown s) s.loads;
+      loads = with_page (load_by shown s) s.loads;
       verdicts = s.verdicts;
       reads = s.reads;
+      programs = with_page (program_by shown s) s.programs;
       in_order = s.in_order && no_cache s.awaited;
     }
 
@@ -164,6 +170,7 @@ looked (byte ∷ bytes) s =
       loads = s.loads;
       verdicts = verdicts_after s.load byte s.verdicts;
       reads = s.reads;
+      programs = s.programs;
       in_order = s.in_order;
     })
 
@@ -179,12 +186,12 @@ recorded (some page) column bytes before = before ++ bytes_at page column bytes
 
 abbrev pub with_reads : List ReadByte → Sight → Sight
 with_reads reads s =
-    record { frame = s.frame; awaited = s.awaited; load = s.load; loads = s.loads; verdicts = s.verdicts; reads = reads; in_order = s.in_order }
+    record { frame = s.frame; awaited = s.awaited; load = s.load; loads = s.loads; verdicts = s.verdicts; reads = reads; programs = s.programs; in_order = s.in_order }
 
 -- nothing is awaited any more
 abbrev pub answered : Sight → Sight
 answered s =
-    record { frame = s.frame; awaited = other; load = s.load; loads = s.loads; verdicts = s.verdicts; reads = s.reads; in_order = s.in_order }
+    record { frame = s.frame; awaited = other; load = s.load; loads = s.loads; verdicts = s.verdicts; reads = s.reads; programs = s.programs; in_order = s.in_order }
 
 abbrev pub heard_as : Awaited → List ℕ → Sight → Sight
 heard_as other bytes s = s
