@@ -1,14 +1,15 @@
 -- Each sham run breaks a part of `ReadSeen`, by computation.
 use Prim.Native.Nat.{ℕ}
 use native.Mathlib.Omega.{arith}
-use mathlib.Core.Bool.{Bool, true≢false}
+use mathlib.Core.Bool.{Bool, false, true≢false}
 use mathlib.Core.Path.{◌≡◌, refl, ap, sym, subst}
-use mathlib.Core.List.{List, [], ◌∷◌}
+use mathlib.Core.List.{List, [], ◌∷◌, ◌++◌}
 use lib.ListN.{length}
 use lib.Dec.{eqb}
-use Rattle.qspi.specs.Shown.{Shown}
-use Rattle.spi_flash.specs.Run.{Event, reply, act, entry, goes_on, call_of, delay_asked}
-use Rattle.flash_runs.specs.Driver.{steps_at}
+use Rattle.qspi.specs.Shown.{Shown, low, high, write}
+use Rattle.spi_flash.specs.Run.{Event, reply, act, entry, goes_on, run_of, call_of, delay_asked}
+use Rattle.flash_runs.specs.Driver.{run_at, steps_at}
+use Rattle.flash_runs.specs.Contents.{contents_from}
 use Rattle.spi_nand.specs.Config.{W25N01GV}
 use Rattle.spi_nand.specs.declared.call.Call.{Call}
 use Rattle.flash_runs.specs.Reading.{bytes_read}
@@ -17,7 +18,10 @@ use Rattle.nand_runs.specs.Bound.{pages_touched}
 use Rattle.nand_runs.specs.Observer.{ReadByte, read_byte}
 use Rattle.nand_runs.specs.Promises.{ReadsAsAsked}
 use Rattle.nand_runs.specs.ReadSeen.{ReadSeen}
-use Rattle.nand_runs.specs.Shams.{Exchange, two_places, success, gave, asked_to_read, run_from, claimed, at_rest, played, actor, actions_in, Ruled, LawfulRuns, ShamRuns, ShamsRuledOut}
+use Rattle.nand_runs.specs.Chip.{Chip, byte_at, FromChip, DeliversTheChip}
+use Rattle.nand_runs.specs.Observer.{reads_cache, unseen}
+use Rattle.nand_runs.specs.Shams as Shams
+use Rattle.nand_runs.specs.Shams.{done, holding, true_run, before_verdict, before_look, ChipsTold, Exchange, two_places, success, gave, asked_to_read, run_from, claimed, at_rest, played, actor, actions_in, page_0, Ruled, LawfulRuns, ShamRuns, ShamsRuledOut}
 
 -- ---- what tells two lists apart
 
@@ -126,5 +130,43 @@ drivers : (xs : List Exchange) → Ruled (claimed xs) → ReadsAsAsked (actor (a
 drivers xs rule kept =
     rule (subst (λ ys. ReadSeen ys W25N01GV 2047 2) (begins xs) (kept.read at_rest 2047 two_places (events xs) refl))
 
+-- ---- chips
+
+runs : (x : Exchange) (xs : List Exchange) → run_at (actor (actions_in (x ∷ xs))) at_rest (Call.Read 2047) two_places (events (x ∷ xs)) ≡ claimed (x ∷ xs)
+unfolding run_of goes_on events
+runs x xs = ap (λ rest. gave asked_to_read (act x.shown) ∷ rest) (plays (actions_in (x ∷ xs)) (reply x.kind x.bytes two_places) xs)
+
+-- the actions behind its first
+abbrev later : List Exchange
+later = done (write (Shams.load_command 0)) ∷ done high ∷ (Shams.waited ++ Shams.status 0 ++ Shams.last_byte ++ Shams.first_byte)
+
+abbrev skipping : List Exchange
+skipping = page_0 ++ Shams.first_byte
+
+skipped : DeliversTheChip (actor (actions_in skipping)) → ⊥
+unfolding watched FromChip Succeeded bytes_read
+skipped kept =
+    let chip : Chip = holding 161 0 178 in
+    let answers : FromChip chip unseen (claimed skipping) = (tt, (tt, (tt, (tt, (tt, (tt, (tt, (tt, (tt, (tt, (tt, (tt, (tt, (tt, (tt, (refl, (tt, (tt, (tt, (refl, (tt, tt))))))))))))))))))))) in
+    let delivers = kept.read chip at_rest 2047 two_places (events skipping) (subst (FromChip chip unseen) (sym (runs (done low) later)) answers) in
+    let well : Succeeded (claimed skipping) = tt in
+    let whole = delivers.whole (subst Succeeded (sym (begins skipping)) well) in
+    true≢false (ap (λ xs. eqb (second xs) 178) (subst (λ ys. bytes_read reads_cache false ys ≡ contents_from (byte_at W25N01GV chip) 2047 2) (begins skipping) whole))
+
+no-page-written : DeliversTheChip (actor []) → ⊥
+unfolding watched Succeeded call_of goes_on
+no-page-written kept = true≢false (ap (λ xs. eqb (length xs) 0) (kept.write_page at_rest 0 two_places [] tt).loads)
+
+chips : ChipsTold
+unfolding watched FromChip
+chips = record {
+  answers = (tt, (tt, (tt, (tt, (tt, (tt, (tt, (tt, (tt, (tt, (tt, (tt, (tt, (tt, (tt, (refl, (tt, (tt, (tt, (tt, (tt, (tt, (tt, (tt, (tt, (tt, (tt, (tt, (tt, (tt, (tt, (refl, (tt, tt)))))))))))))))))))))))))))))))));
+  holds = λ chip h. (sym (ap first h.1.1.1.1.1.1.1.1.1.1.1.1.1.1.1.0), sym (ap first h.1.1.1.1.1.1.1.1.1.1.1.1.1.1.1.1.1.1.1.1.1.1.1.1.1.1.1.1.1.1.1.0));
+  unjudged = λ chip h. sym (ap first h.1.1.1.1.1.1.1.1.1.1.1.0);
+  unlooked = λ chip h. sym (ap first h.1.1.1.1.1.1.1.0);
+  load-skipped = skipped;
+  no-traffic = no-page-written;
+}
+
 pub shams-ruled-out : ShamsRuledOut
-shams-ruled-out = record { lawful = lawful; runs = ruled; drivers = drivers }
+shams-ruled-out = record { lawful = lawful; runs = ruled; chips = chips; drivers = drivers }

@@ -1,7 +1,7 @@
 -- Sham runs and sham drivers of a NAND read (docs/SPECIFICATION.md, "Shams" and "Reads on the bus"), each of 2 bytes at 2,047 of a
 -- W25N01GV: the last byte of page 0 and the first of page 1. `ReadSeen` allows the run of a true driver, and none of the shams. Each
 -- lawful run beside a sham differs from it in one thing, so that every part of the observer is needed to tell them apart.
-use Rattle.std.specs.Prelude.{ℕ, Bool, true, false, List, [], ◌∷◌, ◌++◌}
+use Rattle.std.specs.Prelude.{ℕ, Bool, true, false, ◌≡◌, ◌==◌, if◌then◌else◌, List, [], ◌∷◌, ◌++◌}
 use Rattle.qspi.specs.Shown.{Shown, low, high, write, read, delay}
 use Rattle.qspi.specs.declared.bus.Reply.{Reply}
 use Rattle.spi_flash.specs.Loan.{Lent}
@@ -15,6 +15,8 @@ use Rattle.spi_nand.specs.declared.answer.Answer.{Answer}
 use Rattle.spi_nand.specs.declared.call.Call.{Call}
 use Rattle.spi_nand.specs.declared.setup.Setup.{Setup}
 use Rattle.nand_driver.specs.Call.{fresh_setup}
+use Rattle.nand_runs.specs.Chip.{Chip, FromChip, DeliversTheChip}
+use Rattle.nand_runs.specs.Observer.{unseen}
 use Rattle.nand_runs.specs.Program.{Left}
 use Rattle.nand_runs.specs.Promises.{ReadsAsAsked}
 use Rattle.nand_runs.specs.ReadSeen.{ReadSeen}
@@ -304,8 +306,25 @@ pub record ShamRuns : Type 0 where
   pub no-delay : Ruled no_delay
   pub long-delay : Ruled long_delay
 
+-- a chip that holds these bytes, one in each of two places of the two pages
+abbrev pub holding : (last first : ℕ) → (other : ℕ) → Chip
+holding last first other page column = if page == 0 then (if column == 2047 then last else other) else first
+
+pub record ChipsTold : Type 0 where
+  -- a chip has answered so, and every chip that has holds these bytes at the places that were asked for
+  pub answers : FromChip (holding 161 178 0) unseen true_run
+  pub holds : (chip : Chip) → FromChip chip unseen true_run → (chip 0 2047 ≡ 161) × (chip 1 0 ≡ 178)
+  -- also where its verdict had not come, or no look
+  pub unjudged : (chip : Chip) → FromChip chip unseen before_verdict → chip 0 2047 ≡ 161
+  pub unlooked : (chip : Chip) → FromChip chip unseen before_look → chip 0 2047 ≡ 161
+  -- a driver that skips a load delivers what the chip does not hold
+  pub load-skipped : DeliversTheChip (actor (actions_in (page_0 ++ first_byte))) → ⊥
+  -- one that claims success without traffic has written no page
+  pub no-traffic : DeliversTheChip (actor []) → ⊥
+
 pub record ShamsRuledOut : Type 0 where
   pub lawful : LawfulRuns
   pub runs : ShamRuns
+  pub chips : ChipsTold
   -- a driver that gives out the actions of a sham run does not keep the promises of a read
   pub drivers : (xs : List Exchange) → Ruled (claimed xs) → ReadsAsAsked (actor (actions_in xs)) → ⊥
