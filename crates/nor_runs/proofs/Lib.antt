@@ -24,3 +24,4 @@ pub mod SeenRead
 pub mod SeenWrite
 pub mod Chip
 pub mod ShamRuns
+pub mod ShamReads

@@ -5,15 +5,9 @@ use Rattle.qspi.specs.Shown.{Shown, low, high, write, read, quad_read, quad_writ
 use Rattle.qspi.specs.declared.bus.Reply.{Reply}
 use Rattle.spi_flash.specs.Loan.{Lent}
 use Rattle.spi_flash.specs.Run.{Event, reply, call, Given, act, ended, Entry}
-use Rattle.flash_runs.specs.Shams.{Subject, in_place, ClaimsAll}
 use Rattle.spi_nor.specs.Config.{quad_w25q128jv}
-use Rattle.spi_nor.specs.declared.answer.Answer.{Answer}
-use Rattle.spi_nor.specs.declared.call.Call.{Call}
 use Rattle.spi_nor.specs.declared.config.NorQuadConfig.{NorQuadConfig}
-use Rattle.spi_nor.specs.declared.setup.Setup.{Setup}
-use Rattle.nor_runs.specs.Chip.{ReadSeen, WriteSeen, DeliversTheChip}
-use Rattle.nor_runs.specs.Run.{nor_driver}
-use Rattle.nor_runs.specs.Shams.{Memory}
+use Rattle.nor_runs.specs.Chip.{ReadSeen, WriteSeen}
 
 -- ---- how a run is written down
 
@@ -208,12 +202,10 @@ pub record ShamRunsFail : Type 0 where
   pub back : WriteSeen None written_back 5 2
   pub back_by_quad : WriteSeen quad written_quad 5 2
   -- sham writes
-  pub not-read_back : WriteSeen None not_read_back 5 2 → ⊥
+  pub not-read-back : WriteSeen None not_read_back 5 2 → ⊥
   pub not-compared : WriteSeen None not_compared 5 2 → ⊥
   pub other-place : WriteSeen None other_place 5 2 → ⊥
   pub written-elsewhere : WriteSeen None written_elsewhere 5 2 → ⊥
   pub other-command : WriteSeen None other_command 5 2 → ⊥
   pub never-written : WriteSeen None never_written 5 2 → ⊥
-  pub read_back-first : WriteSeen None read_back_first 5 2 → ⊥
-  -- and no driver that claims success with no traffic delivers the chip
-  pub claiming : (sham : Subject Memory Call Setup Answer) → ClaimsAll (in_place nor_driver sham) → DeliversTheChip (in_place nor_driver sham) → ⊥
+  pub read-back-first : WriteSeen None read_back_first 5 2 → ⊥

@@ -6,6 +6,7 @@ ghost use Rattle.nor_runs.specs.Loops.{NorLoops};
 ghost use Rattle.nor_runs.specs.NothingWraps.{NothingWraps};
 ghost use Rattle.nor_runs.specs.Run.{nor_driver, NorPromises};
 ghost use Rattle.nor_runs.specs.SameWords.{SameWords};
+ghost use Rattle.nor_runs.specs.ShamReads.{ShamReadsFail};
 ghost use Rattle.nor_runs.specs.ShamRuns.{ShamRunsFail};
 ghost use Rattle.nor_runs.specs.Shams.{NorShamsFail};
 
@@ -47,4 +48,10 @@ pub fn nor_never_wraps()
 /// chip takes otherwise, a page not read back, not compared, or read back from another place than it was written to.
 pub fn nor_sham_runs_fail()
     ensures { ShamRunsFail }
+{}
+
+/// No sham driver delivers the chip: one that reads every piece from place 0, passes a page that reads back otherwise, or claims success
+/// with no traffic.
+pub fn nor_sham_reads_fail()
+    ensures { ShamReadsFail }
 {}
