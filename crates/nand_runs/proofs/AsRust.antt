@@ -15,12 +15,12 @@ use Rattle.spi_flash.specs.OnBus as OnBus
 use Rattle.spi_flash.specs.OnBus.{BusProg, answers, stops, does, fills, on_bus, program_on_bus, performed}
 use Rattle.spi_flash.specs.Prog.{Prog, ret, fail, ask, ◌>>=◌, ◌>>◌, refuse}
 use Rattle.spi_flash.specs.Run.{Event, Answer}
-use Rattle.spi_flash.specs.Seen.{Did, told, gives_of, replies_of, accepted, Undisturbed}
+use Rattle.spi_flash.specs.Seen.{Did, told, gives_of, replies_of, accepted}
 use Rattle.spi_flash.specs.declared.error.FlashError.{FlashError}
 use Rattle.spi_flash.proofs.Laws.{bind_assoc}
 use Rattle.flash_runs.specs.Driver.{steps_at, sort_at}
 use Rattle.flash_runs.specs.Promises.{Promises}
-use Rattle.flash_runs.specs.SameAsRust.{left_by, driver_after, Turn, Steady, Regular, accepted_at, rust_call, driver_of, turn_steps, turn_after, EachTurn, each_turn, accepted_turn, turn_gives, holding, rust_turn, rust_session}
+use Rattle.flash_runs.specs.SameAsRust.{left_by, driver_after, Turn, Steady, accepted_at, rust_call, driver_of, turn_steps, turn_after, EachTurn, each_turn, accepted_turn, turn_gives, holding, rust_turn, rust_session}
 use Rattle.flash_runs.proofs.Promises.{promises}
 use Rattle.flash_runs.proofs.SameAsRust.{turn-gives, left-as}
 use Rattle.spi_nand.specs.declared.config.NandInit.{NandInit}
@@ -39,7 +39,6 @@ use Rattle.nand_runs.specs.Run.{nand_driver}
 use Rattle.nand_runs.proofs.Places.{parts, Valid}
 use Rattle.nand_runs.proofs.Keeps.{Built}
 use Rattle.nand_runs.proofs.Meaning.{DONE, meaning}
-use Rattle.nand_runs.proofs.Simulation.{simulates}
 use Rattle.nand_runs.proofs.Construction.{large}
 use Rattle.nand_runs.proofs.Known.{supplies, known}
 use Rattle.nand_runs.proofs.Is.{nand-is}

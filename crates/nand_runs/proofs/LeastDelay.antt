@@ -20,7 +20,7 @@ use Rattle.nand_runs.specs.Rust.{wait-ready, load-page, page-read, reading, read
 use Rattle.nand_runs.proofs.Pages.{pages, some-page, in-range, pages_left, pages-first, one_fewer, pages-done}
 use Rattle.nand_runs.proofs.ReadLoop.{reading-loop}
 
--- document 01: "page load 10, 10, 400,000"
+-- the first delay of a page load
 least-wait : AtLeast delays 10 (wait-ready Operation.PageRead)
 unfolding wait-ready delayed_wait timings_of
 least-wait = at-least-then {c = 0} at-least-transfer at-least-zero

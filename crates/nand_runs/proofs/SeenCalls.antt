@@ -271,7 +271,7 @@ module _ (R : List ℕ → List ReadByte → List ℕ → Bool → Type 0) where
         (shows-bind watcher Q (look (loaded page t) more false (waited page)) (λ v y e. shows-ret watcher Q (v, refl, e)))
         (λ byte y e. shows-ret watcher Q e)
 
-    -- "page_read refuses only 2"
+    -- it goes on with any verdict but 2
     abbrev pub Loaded : Unit {0} → Sights → Type 0
     Loaded u y = (verdict : ℕ) × (eqb verdict 2 ≡ false) × (y ≡ at false (judged page) (verdict_noted verdict (loaded page t)))
 

@@ -1,6 +1,6 @@
 -- Every action, result and delivered byte of the NAND driver is the Rust's, but for the one difference that is listed: a construction
 -- with a page above 4,096 (docs/SPECIFICATION.md, "Same as the Rust"; docs/DIFFERENCES.md).
-use Rattle.std.specs.Prelude.{ℕ, true, false, ◌≡◌, List, [], ◌∷◌, map, length}
+use Rattle.std.specs.Prelude.{ℕ, true, false, ◌≡◌, List, [], ◌∷◌, map}
 use Rattle.std.proofs.Math.Option.{none}
 use Rattle.qspi.specs.Choice.{pick}
 use Rattle.qspi.specs.declared.transfer.Transfer.{Transfer}

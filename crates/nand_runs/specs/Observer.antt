@@ -1,12 +1,11 @@
--- What is seen of a NAND `read` from outside (document 01, "A run, as demand 3 takes it"): a watcher over the bytes of the actions given
--- out and of the replies, which knows nothing of the driver.
-use Rattle.std.specs.Prelude.{ℕ, suc, ◌/◌, ◌%◌, ◌^◌, Bool, true, false, ◌&&◌, List, [], ◌∷◌, ◌++◌, length, take, leb, eqb}
+-- What is seen of the NAND from outside: a watcher over the bytes of the actions given out and of the replies, which knows nothing of the
+-- driver (docs/SPECIFICATION.md, "Reads on the bus").
+use Rattle.std.specs.Prelude.{ℕ, suc, ◌/◌, ◌%◌, ◌^◌, Bool, true, false, ◌&&◌, ◌==◌, if◌then◌else◌, List, [], ◌∷◌, ◌++◌, length, take, leb}
 use Rattle.std.proofs.Math.Option.{Option, none, some}
 use Rattle.qspi.specs.Address.{read_from}
-use Rattle.qspi.specs.Choice.{pick}
-use Rattle.qspi.specs.Shown.{Shown, low, high, write, read, quad_read, quad_write, delay}
+use Rattle.qspi.specs.Shown.{Shown, write, read, quad_read}
 use Rattle.spi_flash.specs.Bits.{is_clear}
-use Rattle.flash_runs.specs.Watch.{Watcher, BusFrame, closed, selected, commanded, frame_after, command_in}
+use Rattle.flash_runs.specs.Watch.{Watcher, BusFrame, closed, selected, frame_after, command_in}
 use Rattle.spi_nand.specs.Opcode.{GET-FEATURE, REG-STATUS, PAGE-READ, PROGRAM-EXECUTE, READ-CACHE}
 
 -- ---- what a command is, by its bytes
@@ -14,19 +13,17 @@ use Rattle.spi_nand.specs.Opcode.{GET-FEATURE, REG-STATUS, PAGE-READ, PROGRAM-EX
 -- the page in the three address bytes behind this opcode: a load is 13 with them, a program 10
 abbrev pub page_behind : ℕ → List ℕ → Option ℕ
 page_behind wanted [] = none
-page_behind wanted (opcode ∷ address) = pick (eqb opcode wanted && eqb (length address) 3) (some (read_from 0 address)) none
+page_behind wanted (opcode ∷ address) = if opcode == wanted && length address == 3 then some (read_from 0 address) else none
 
--- "a read whose frame's write was 0F C0"
+-- 0F C0, and nothing more
 abbrev pub asks_status : List ℕ → Bool
-asks_status [] = false
-asks_status (opcode ∷ []) = false
-asks_status (opcode ∷ register ∷ []) = eqb opcode GET-FEATURE && eqb register REG-STATUS
-asks_status (opcode ∷ register ∷ value ∷ rest) = false
+asks_status (opcode ∷ register ∷ []) = opcode == GET-FEATURE && register == REG-STATUS
+asks_status _ = false
 
--- "its data replies answer reads from the chip's cache, not of a register": command 03 with two column bytes
+-- 03 with two column bytes: it reads the cache, and no register
 abbrev pub reads_cache : List ℕ → Bool
 reads_cache [] = false
-reads_cache (opcode ∷ address) = eqb opcode READ-CACHE && leb 2 (length address)
+reads_cache (opcode ∷ address) = opcode == READ-CACHE && leb 2 (length address)
 
 -- the two bytes behind the opcode, also of a quad read's, whose opcode is the caller's own
 abbrev pub column_of : List ℕ → ℕ
@@ -35,17 +32,15 @@ column_of (opcode ∷ address) = read_from 0 (take 2 address)
 
 -- ---- what is seen
 
--- the last load: none, or its page; "the first with bit 0 clear ends its wait; the next gives its verdict"
+-- the last load: none; or its page, while it is waited for, once the wait is over, and once the verdict has come
 pub data Load : Type 0 where
   unloaded : Load
   waiting waited judged : ℕ → Load
 
 -- its page, once the verdict has come
 abbrev pub judged_page : Load → Option ℕ
-judged_page unloaded = none
-judged_page (waiting page) = none
-judged_page (waited page) = none
 judged_page (judged page) = some page
+judged_page _ = none
 
 -- what the action that is out asks for: status, or bytes of the cache from a column on, with the load as it stood
 pub data Awaited : Type 0 where
@@ -81,19 +76,13 @@ unseen = record { frame = closed; awaited = other; load = unloaded; loads = []; 
 -- ---- an action is given out
 
 abbrev pub written_by : Shown → List ℕ
-written_by low = []
-written_by high = []
 written_by (write bytes) = bytes
-written_by (read n) = []
-written_by (quad_read command tclqv margin n) = []
-written_by (quad_write command payload) = []
-written_by (delay us) = []
+written_by _ = []
 
--- either is the first write since select went low: a caller's data may begin with 13 or 10
+-- a load and a program are the first write since select went low: a caller's data may begin with 13 or 10
 abbrev pub page_in : ℕ → BusFrame → List ℕ → Option ℕ
-page_in wanted closed bytes = none
 page_in wanted selected bytes = page_behind wanted bytes
-page_in wanted (commanded command) bytes = none
+page_in wanted _ bytes = none
 
 abbrev pub load_by : Shown → Sight → Option ℕ
 load_by shown s = page_in PAGE-READ s.frame (written_by shown)
@@ -101,7 +90,7 @@ load_by shown s = page_in PAGE-READ s.frame (written_by shown)
 abbrev pub program_by : Shown → Sight → Option ℕ
 program_by shown s = page_in PROGRAM-EXECUTE s.frame (written_by shown)
 
--- "each load starts the automaton anew"
+-- with a load its wait begins
 abbrev pub last_load : Option ℕ → Load → Load
 last_load none load = load
 last_load (some page) load = waiting page
@@ -111,21 +100,16 @@ with_page none pages = pages
 with_page (some page) pages = pages ++ page ∷ []
 
 abbrev pub read_awaits : List ℕ → Load → Awaited
-read_awaits command load = pick (asks_status command) status (pick (reads_cache command) (cache (column_of command) load) other)
+read_awaits command load = if asks_status command then status else if reads_cache command then cache (column_of command) load else other
 
 abbrev pub awaited_by : Shown → Sight → Awaited
-awaited_by low s = other
-awaited_by high s = other
-awaited_by (write bytes) s = other
 awaited_by (read n) s = read_awaits (command_in s.frame) s.load
 awaited_by (quad_read command tclqv margin n) s = cache (column_of command) s.load
-awaited_by (quad_write command payload) s = other
-awaited_by (delay us) s = other
+awaited_by _ s = other
 
 abbrev pub no_cache : Awaited → Bool
-no_cache other = true
-no_cache status = true
 no_cache (cache column load) = false
+no_cache _ = true
 
 abbrev pub given_out : Shown → Sight → Sight
 given_out shown s =
@@ -142,61 +126,43 @@ given_out shown s =
 
 -- ---- its reply has come
 
--- "Bits 5 and 4 give the ECC verdict"
+-- bits 5 and 4
 abbrev pub verdict_bits : ℕ → ℕ
 verdict_bits byte = byte / 2 ^ 4 % 4
 
+-- the first look that finds bit 0 clear ends the wait, the next one gives the verdict, and others mean nothing
 abbrev pub load_after : Load → ℕ → Load
-load_after unloaded byte = unloaded
-load_after (waiting page) byte = pick (is_clear 0 byte) (waited page) (waiting page)
+load_after (waiting page) byte = if is_clear 0 byte then waited page else waiting page
 load_after (waited page) byte = judged page
-load_after (judged page) byte = judged page
+load_after load byte = load
 
 abbrev pub verdicts_after : Load → ℕ → List ℕ → List ℕ
-verdicts_after unloaded byte verdicts = verdicts
-verdicts_after (waiting page) byte verdicts = verdicts
 verdicts_after (waited page) byte verdicts = verdicts ++ verdict_bits byte ∷ []
-verdicts_after (judged page) byte verdicts = verdicts
+verdicts_after _ byte verdicts = verdicts
 
 -- the status bytes of a reply
 abbrev pub looked : List ℕ → Sight → Sight
 looked [] s = s
-looked (byte ∷ bytes) s =
-    looked bytes
-    (record {
-      frame = s.frame;
-      awaited = s.awaited;
-      load = load_after s.load byte;
-      loads = s.loads;
-      verdicts = verdicts_after s.load byte s.verdicts;
-      reads = s.reads;
-      programs = s.programs;
-      in_order = s.in_order;
-    })
+looked (byte ∷ bytes) s = looked bytes (record s { load = load_after s.load byte; verdicts = verdicts_after s.load byte s.verdicts })
 
 -- bytes of a page from a column on
 abbrev pub bytes_at : ℕ → ℕ → List ℕ → List ReadByte
 bytes_at page column [] = []
 bytes_at page column (b ∷ bytes) = read_byte page column b ∷ bytes_at page (suc column) bytes
 
--- "Each byte read was asked for at its column, after its page's verdict": no other is recorded
+-- bytes count only where the verdict had come when they were asked for
 abbrev pub recorded : Option ℕ → ℕ → List ℕ → List ReadByte → List ReadByte
 recorded none column bytes before = before
 recorded (some page) column bytes before = before ++ bytes_at page column bytes
 
-abbrev pub with_reads : List ReadByte → Sight → Sight
-with_reads reads s =
-    record { frame = s.frame; awaited = s.awaited; load = s.load; loads = s.loads; verdicts = s.verdicts; reads = reads; programs = s.programs; in_order = s.in_order }
-
 -- nothing is awaited any more
 abbrev pub answered : Sight → Sight
-answered s =
-    record { frame = s.frame; awaited = other; load = s.load; loads = s.loads; verdicts = s.verdicts; reads = s.reads; programs = s.programs; in_order = s.in_order }
+answered s = record s { awaited = other }
 
 abbrev pub heard_as : Awaited → List ℕ → Sight → Sight
 heard_as other bytes s = s
 heard_as status bytes s = looked bytes s
-heard_as (cache column load) bytes s = with_reads (recorded (judged_page load) column bytes s.reads) s
+heard_as (cache column load) bytes s = record s { reads = recorded (judged_page load) column bytes s.reads }
 
 -- ---- the watcher
 

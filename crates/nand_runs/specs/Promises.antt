@@ -1,6 +1,6 @@
 -- The promises of the NAND driver over every run. Those that both drivers keep are the general ones (specs/Promises.antt of
 -- flash_runs, of `nand_driver`); here stands what the NAND has of its own.
-use Rattle.std.specs.Prelude.{ℕ, ◌*◌, true, false, ◌≡◌, List, [], length}
+use Rattle.std.specs.Prelude.{ℕ, ◌*◌, false, ◌≡◌, List, [], length}
 use Rattle.qspi.specs.Bytes.{AllBytes}
 use Rattle.spi_flash.specs.Loan.{Lent}
 use Rattle.spi_flash.specs.Run as Run
