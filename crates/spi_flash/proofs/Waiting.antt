@@ -1,11 +1,12 @@
 -- The wait law, for any first delay, any limit and any poll delay of at least 1.
-use Prim.Native.Nat.{ℕ, zero, suc, ◌+◌, ◌-◌, ◌*◌, ◌/◌, ◌%◌, ◌≤◌, ◌<◌}
+use Prim.Native.Nat.{ℕ, zero, suc, ◌+◌, ◌-◌, ◌*◌, ◌/◌, ◌%◌, ◌^◌, ◌≤◌, ◌<◌}
 use native.Mathlib.Omega.{arith}
 use native.Mathlib.Nat.{mul-le-mul_left, mul-le-mul_right, div-add-mod', mod-lt}
 use mathlib.Core.Bool.{Bool, true, false, not}
-use mathlib.Core.Path.{◌≡◌, refl, ap, sym, ◌∙◌}
+use mathlib.Core.Path.{◌≡◌, refl, ap, sym, ◌∙◌, fun_ext}
 use mathlib.Core.List.{List}
 use borrow.Author.Tests.{le-leb, lt-leb, leb-false}
+use Rattle.std.proofs.lemmas.Bool.{ne_eqb}
 use lib.Dec.{leb, lit<}
 use Rattle.qspi.specs.declared.command.Command.{Command}
 use Rattle.qspi.specs.declared.transfer.Sink.{Sink}
@@ -14,9 +15,10 @@ use Rattle.qspi.specs.declared.transfer.Transfer.{Transfer}
 use Rattle.spi_flash.specs.declared.error.FlashError.{FlashError}
 use Rattle.spi_flash.specs.declared.wait.Timings.{Timings}
 use Rattle.std.specs.Prelude.{if◌then◌else◌}
+use Rattle.spi_flash.specs.Wait.{u32_max, saturating_add, first_wait, next_wait}
 use Rattle.spi_flash.specs.Prog.{Prog, ret, fail, ◌>>=◌, ◌>>◌, transfer}
 use Rattle.spi_flash.specs.Path.{Every, delays, Bounded, Ends}
-use Rattle.spi_flash.specs.WaitLaw.{look_at, wait_loop, waiting, delayed_wait, prompt_wait, WaitLoop, poll_count, look_weight, looking, pausing, TakesTurns, WaitLaw, WaitInGeneral}
+use Rattle.spi_flash.specs.WaitLaw.{look_at, wait_loop, waiting, delayed_wait, prompt_wait, WaitLoop, poll_count, look_weight, looking, pausing, TakesTurns, WaitLaw, ruled, ByRule, RuleIsLoop, WaitInGeneral}
 use Rattle.spi_flash.proofs.Laws.{bounded-ask, bounded-ret, bounded-fail, bounded-then, bounded-if, bounded-more, bounded-transfer, ends-ask, ends-ret, ends-then, ends-transfer, ends-eq}
 use Rattle.spi_flash.proofs.Replies.{byte}
 
@@ -101,6 +103,70 @@ module _ (status : Command) (busy : ℕ → Bool) where
           let next = waited + t.poll_us in
           rw (e, fuel-free t (t.timeout_us - waited) (suc (t.timeout_us - next)) next h (omega arith) (omega arith))
 
+  -- ---- the code's rule
+
+  module _ (t : Timings) (h : 1 ≤ t.poll_us) (fits : t.timeout_us + t.poll_us < 2 ^ 32) where
+    -- below the limit the sum stays
+    sum-stays : (waited : ℕ) → waited < t.timeout_us → saturating_add waited t.poll_us ≡ waited + t.poll_us
+    sum-stays waited l = rw (le-leb t.poll_us (u32_max - waited) (omega arith)) refl
+
+    -- the rule of a look goes on as the loop does
+    as-loop : (waited : ℕ) (b : Bool) → ruled (next_wait t waited b) (waiting status busy t) ≡ (
+        if not b
+        then ret tt
+        else if leb t.timeout_us waited
+        then fail FlashError.Timeout
+        else do
+          transfer (Transfer.Pause t.poll_us)
+          waiting status busy t (waited + t.poll_us))
+    unfolding next_wait
+    as-loop waited false = refl
+    as-loop waited true = by (leb t.timeout_us waited) refl
+      where
+        by : (b : Bool) → leb t.timeout_us waited ≡ b → ruled (next_wait t waited true) (waiting status busy t) ≡ (
+            if leb t.timeout_us waited
+            then fail FlashError.Timeout
+            else do
+              transfer (Transfer.Pause t.poll_us)
+              waiting status busy t (waited + t.poll_us))
+        by true e = rw e
+        by false e = rw (e, sum-stays waited (leb-false t.timeout_us waited e))
+
+    by-rule : ByRule status busy t (waiting status busy t)
+    by-rule = record {
+      goes = λ waited. (loops t h).loops waited ∙ ap (λ f. look_at status busy >>= f) (fun_ext (λ s. sym (as-loop waited (busy s))));
+    }
+
+    -- the rule of a look, before two waits that are one behind the next poll
+    same-step : (p q : ℕ → Prog (Unit {0})) (waited : ℕ) → (waited < t.timeout_us → p (waited + t.poll_us) ≡ q (waited + t.poll_us)) →
+        (b : Bool) → ruled (next_wait t waited b) p ≡ ruled (next_wait t waited b) q
+    unfolding next_wait
+    same-step p q waited e false = refl
+    same-step p q waited e true = by (leb t.timeout_us waited) refl
+      where
+        by : (b : Bool) → leb t.timeout_us waited ≡ b → ruled (next_wait t waited true) p ≡ ruled (next_wait t waited true) q
+        by true g = rw g
+        by false g =
+            let l = leb-false t.timeout_us waited g in
+            rw (g, sum-stays waited l) (ap (λ r. transfer (Transfer.Pause t.poll_us) >> r) (e l))
+
+    only-loop : (p : ℕ → Prog (Unit {0})) → ByRule status busy t p → (n waited : ℕ) → t.timeout_us - waited < n → p waited ≡ waiting status busy t waited
+    only-loop p r zero waited l = absurd (omega arith)
+    only-loop p r (suc n) waited l =
+        r.goes waited
+        ∙ ap (λ f. look_at status busy >>= f)
+        (fun_ext (λ s. same-step p (waiting status busy t) waited (λ below. only-loop p r n (waited + t.poll_us) (omega arith)) (busy s)))
+        ∙ sym (by-rule.goes waited)
+
+    rule-is-loop : RuleIsLoop status busy t
+    unfolding first_wait delayed_wait prompt_wait
+    rule-is-loop = record {
+      loop = by-rule;
+      only = λ p r waited. only-loop p r (suc (t.timeout_us - waited)) waited (omega arith);
+      delayed = λ some. rw (ne_eqb t.initial_us 0 (λ z. omega arith)) refl;
+      prompt = λ none. rw none refl;
+    }
+
   -- ---- sums over the polls
 
   module _ (w : Transfer → ℕ) (poll : ℕ) where
@@ -176,4 +242,4 @@ module _ (status : Command) (busy : ℕ → Bool) where
         }
 
 pub wait-in-general : WaitInGeneral
-wait-in-general = record { loop = loops; delayed = delayed-law; prompt = λ status busy ready waits t z h. prompt-law status busy ready waits t h z }
+wait-in-general = record { loop = loops; delayed = delayed-law; prompt = λ status busy ready waits t z h. prompt-law status busy ready waits t h z; rule = rule-is-loop }

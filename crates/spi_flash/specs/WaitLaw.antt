@@ -1,14 +1,16 @@
--- The wait in general: any first delay, any limit, any poll delay of at least 1 (document 01, "Wait limits", and "The
--- strength of each contract", 4). Over the command that asks for status and the test that tells busy.
-use Rattle.std.specs.Prelude.{ℕ, zero, suc, ◌+◌, ◌-◌, ◌*◌, ◌/◌, ◌≤◌, ◌<◌, Bool, true, false, not, ◌≡◌, List, [], ◌∷◌, leb, if◌then◌else◌, Ok, Err}
+-- The wait in general: any first delay, any limit, any poll delay of at least 1 (docs/SPECIFICATION.md, "Waits and bounds"). Over the
+-- command that asks for status and the test that tells busy.
+use Rattle.std.specs.Prelude.{ℕ, zero, suc, ◌+◌, ◌-◌, ◌*◌, ◌/◌, ◌^◌, ◌≤◌, ◌<◌, Bool, true, false, not, ◌≡◌, List, [], ◌∷◌, leb, if◌then◌else◌, Ok, Err}
 use Rattle.qspi.specs.declared.command.Command.{Command}
 use Rattle.qspi.specs.declared.transfer.Sink.{Sink}
 use Rattle.qspi.specs.declared.transfer.Body.{Body}
 use Rattle.qspi.specs.declared.transfer.Transfer.{Transfer}
 use Rattle.spi_flash.specs.declared.error.FlashError.{FlashError}
 use Rattle.spi_flash.specs.declared.wait.Timings.{Timings}
+use Rattle.spi_flash.specs.declared.wait.Wait.{Wait}
 use Rattle.spi_flash.specs.Prog.{Prog, ret, fail, ◌>>=◌, ◌>>◌, transfer}
 use Rattle.spi_flash.specs.Path.{Past, back, End, going, done, failed, delays, Every, Bounded, Ends}
+use Rattle.spi_flash.specs.Wait.{first_wait, next_wait}
 
 -- ---- the Rust's loop
 
@@ -118,7 +120,7 @@ module _ (busy : ℕ → Bool) (limit : ℕ) where
   TakesTurns pausing sum seen (back t (Ok v) ∷ past) end = OnlyPause (wait_step t) (λ us. TakesTurns looking (sum + us) seen past end)
   TakesTurns pausing sum seen (back t (Err error) ∷ past) end = end ≡ failed (FlashError.Spi error.0)
 
--- what document 01 says of a wait p over a row of a table
+-- what holds of a wait p over a row of a table
 pub record WaitLaw (status : Command) (busy : ℕ → Bool) (t : Timings) (p : Prog (Unit {0})) : Type 0 where
   -- behind the first delay, if any, it takes turns
   pub turns : Every (waiting status busy t t.initial_us) (TakesTurns busy t.timeout_us looking t.initial_us 0)
@@ -129,10 +131,36 @@ pub record WaitLaw (status : Command) (busy : ℕ → Bool) (t : Timings) (p : P
   pub looked : Bounded look_weight (looks t) p
   pub looked_reached : (given : List ℕ) → Ends given look_weight (looks t) tt p
 
--- the wait law, in the NAND's form and in the NOR's
+-- ---- the code's rule
+
+-- what a step of the rule comes to, and what follows it after delays of so many in all
+abbrev pub ruled : Wait → (ℕ → Prog (Unit {0})) → Prog (Unit {0})
+ruled Wait.Look later = later 0
+ruled (Wait.Pause us waited) later = do
+  transfer (Transfer.Pause us)
+  later waited
+ruled Wait.Ready later = ret tt
+ruled Wait.Timeout later = fail FlashError.Timeout
+
+module _ (status : Command) (busy : ℕ → Bool) (t : Timings) where
+  -- p is a wait by the code's rule: after delays of so many in all it looks, and does what the rule says of that look
+  pub record ByRule (p : ℕ → Prog (Unit {0})) : Type 0 where
+    pub goes : (waited : ℕ) → p waited ≡ (do
+      s ← look_at status busy
+      ruled (next_wait t waited (busy s)) p)
+
+  -- the Rust's loop is a wait by the code's rule, and there is no other; the rule begins it in the NAND's form or in the NOR's
+  pub record RuleIsLoop : Type 0 where
+    pub loop : ByRule (waiting status busy t)
+    pub only : (p : ℕ → Prog (Unit {0})) → ByRule p → (waited : ℕ) → p waited ≡ waiting status busy t waited
+    pub delayed : 1 ≤ t.initial_us → ruled (first_wait t) (waiting status busy t) ≡ delayed_wait status busy t
+    pub prompt : t.initial_us ≡ 0 → ruled (first_wait t) (waiting status busy t) ≡ prompt_wait status busy t
+
+-- the wait law, in the NAND's form and in the NOR's; and that the code's rule makes these loops, where no sum passes 32 bits
 pub record WaitInGeneral : Type 0 where
   pub loop : (status : Command) (busy : ℕ → Bool) (t : Timings) → 1 ≤ t.poll_us → WaitLoop status busy t
   pub delayed : (status : Command) (busy : ℕ → Bool) → busy 0 ≡ false → busy 1 ≡ true → (t : Timings) → 1 ≤ t.poll_us →
       WaitLaw status busy t (delayed_wait status busy t)
   pub prompt : (status : Command) (busy : ℕ → Bool) → busy 0 ≡ false → busy 1 ≡ true → (t : Timings) → t.initial_us ≡ 0 → 1 ≤ t.poll_us →
       WaitLaw status busy t (prompt_wait status busy t)
+  pub rule : (status : Command) (busy : ℕ → Bool) (t : Timings) → 1 ≤ t.poll_us → t.timeout_us + t.poll_us < 2 ^ 32 → RuleIsLoop status busy t
