@@ -39,7 +39,7 @@ use Rattle.nand_runs.specs.Run.{nand_driver}
 use Rattle.nand_runs.proofs.Places.{parts, Valid}
 use Rattle.nand_runs.proofs.Keeps.{Built}
 use Rattle.nand_runs.proofs.Meaning.{DONE, meaning}
-use Rattle.nand_runs.proofs.Construction.{large}
+use Rattle.nand_runs.proofs.Agrees.{large}
 use Rattle.nand_runs.proofs.Known.{supplies, known}
 use Rattle.nand_runs.proofs.Is.{nand-is}
 

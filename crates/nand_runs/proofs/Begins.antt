@@ -8,13 +8,14 @@ use Rattle.spi_nand.specs.Config.{page_count_of}
 use Rattle.spi_nand.specs.Transfer.{in_cache, in_range}
 use Rattle.spi_nand.specs.declared.call.Call.{Call}
 use Rattle.spi_nand.specs.declared.setup.Setup.{Setup}
-use Rattle.nand_runs.specs.Rust.{page-read, read-cache, load-program-data, program-execute, read-page, write-page, erase-block, read, is-bad-block, mark-bad-block}
-use Rattle.nand_runs.specs.Program.{rust_program, program_of}
+use Rattle.nand_runs.proofs.AsCoded.{page-read, read-cache, load-program-data, program-execute, read-page, write-page, erase-block, read, is-bad-block, mark-bad-block}
+use Rattle.nand_runs.specs.Program.{rust_program}
+use Rattle.nand_runs.proofs.AsCoded.{coded_rust, coded}
 use Rattle.nand_runs.specs.ProgramBounds.{Begins}
 
 module _ (flash : Setup) (b d : ℕ) where
-  pub begins : (call : Call) → Asks (program_of flash call b d) → Begins flash call b d
-  unfolding rust_program page-read read-cache load-program-data program-execute read-page write-page erase-block read is-bad-block mark-bad-block refuse ◌>>◌ ◌>>=◌
+  pub begins : (call : Call) → Asks (coded flash call b d) → Begins flash call b d
+  unfolding coded_rust rust_program page-read read-cache load-program-data program-execute read-page write-page erase-block read is-bad-block mark-bad-block refuse ◌>>◌ ◌>>=◌
   begins Call.New h = tt
   begins (Call.WithConfig config) h = tt
   begins Call.Info h = tt

@@ -17,8 +17,10 @@ use Rattle.spi_nand.specs.WaitTable.{largest_of}
 use Rattle.spi_nand.specs.declared.config.SpiNandConfig.{SpiNandConfig}
 use Rattle.spi_nand.specs.declared.call.Call.{Call}
 use Rattle.spi_nand.specs.declared.setup.Setup.{Setup}
-use Rattle.nand_runs.specs.Rust.{wait-ready, read-cache, is-bad-block, mark-bad-block}
-use Rattle.nand_runs.specs.Program.{page_taken, rust_program, program_of}
+use Rattle.nand_runs.specs.Rust.{wait-ready}
+use Rattle.nand_runs.proofs.AsCoded.{read-cache, is-bad-block, mark-bad-block}
+use Rattle.nand_runs.specs.Program.{page_taken, rust_program}
+use Rattle.nand_runs.proofs.AsCoded.{coded_rust, coded}
 use Rattle.nand_runs.specs.Bound.{construction_bound, mark_bound, delay_bound, weight_of, wait_actions, most_actions}
 use Rattle.nand_runs.proofs.Pages.{no-marker}
 use Rattle.nand_runs.proofs.Waits.{wait-delays, wait-actions}
@@ -50,18 +52,18 @@ module _ (flash : Setup) (bounds : in_bounds flash.geometry ≡ true) where
       (λ e. rw e (bounded-more (omega arith) (bounded-mark delay-figures flash bounds block)))
 
 -- a page that is too large is refused once the id is read
-bounded-construction : (flash : Setup) → in_bounds flash.geometry ≡ true → (config : SpiNandConfig) (b d : ℕ) → Bounded delays (construction_bound config) (program_of flash (Call.WithConfig config) b d)
-unfolding rust_program
+bounded-construction : (flash : Setup) → in_bounds flash.geometry ≡ true → (config : SpiNandConfig) (b d : ℕ) → Bounded delays (construction_bound config) (coded flash (Call.WithConfig config) b d)
+unfolding coded_rust rust_program
 bounded-construction flash h config b d =
     by_cases (page_taken config.geometry)
     (λ e. rw e (answered _ (omega arith) (bounded-with-config delay-figures config)))
     (λ e. rw e (bounded-more (omega arith) (bounded-refused-page delay-figures)))
 
-within : (flash : Setup) → in_bounds flash.geometry ≡ true → (call : Call) (b d : ℕ) → weight_of asked flash call b ≤ delay_bound flash call b → Bounded delays (delay_bound flash call b) (program_of flash call b d)
+within : (flash : Setup) → in_bounds flash.geometry ≡ true → (call : Call) (b d : ℕ) → weight_of asked flash call b ≤ delay_bound flash call b → Bounded delays (delay_bound flash call b) (coded flash call b d)
 within flash h call b d e = bounded-more e (weighed delay-figures flash h call b d)
 
-pub bounded : (flash : Setup) → in_bounds flash.geometry ≡ true → (call : Call) (b d : ℕ) → Bounded delays (delay_bound flash call b) (program_of flash call b d)
-unfolding rust_program delay_bound weight_of
+pub bounded : (flash : Setup) → in_bounds flash.geometry ≡ true → (call : Call) (b d : ℕ) → Bounded delays (delay_bound flash call b) (coded flash call b d)
+unfolding coded_rust rust_program delay_bound weight_of
 bounded flash h Call.New b d = within flash h Call.New b d (omega arith)
 bounded flash h (Call.WithConfig config) b d = bounded-construction flash h config b d
 bounded flash h Call.Info b d = within flash h Call.Info b d (omega arith)
@@ -92,5 +94,5 @@ bounded flash h (Call.MarkBadBlock block) b d = ended _ (omega arith) (bounded-m
 
 -- ---- the actions
 
-pub acts : (flash : Setup) → in_bounds flash.geometry ≡ true → (call : Call) (b d : ℕ) → Bounded actions (most_actions flash call b) (program_of flash call b d)
+pub acts : (flash : Setup) → in_bounds flash.geometry ≡ true → (call : Call) (b d : ℕ) → Bounded actions (most_actions flash call b) (coded flash call b d)
 acts = weighed (actions-weigh wait-ready wait_actions wait-actions)

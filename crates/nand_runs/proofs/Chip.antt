@@ -33,7 +33,8 @@ use Rattle.nand_runs.proofs.SeenCalls.{loaded, programmed, verdict_noted, bytes_
 use Rattle.nand_runs.specs.Program.{Left}
 use Rattle.nand_runs.specs.Observer.{reads_cache, Load, unloaded, waiting, waited, judged, judged_page, Awaited, other, status, cache, ReadByte, Sight, unseen, looked, bytes_at, recorded, heard_as, answered, observer}
 use Rattle.nand_runs.specs.ReadSeen.{placed, sight_of, read_so_far}
-use Rattle.nand_runs.specs.Program.{rust_program}
+use Rattle.nand_runs.proofs.AsCoded.{coded_rust}
+use Rattle.nand_runs.proofs.Agrees as Agrees
 use Rattle.nand_runs.specs.Run.{sort_of, nand_driver}
 use Rattle.nand_runs.proofs.Known.{known}
 use Rattle.nand_runs.proofs.SeenSteps.{read-at-once}
@@ -109,14 +110,14 @@ module _ (chip : Chip) where
 
 read : (chip : Chip) (flash : SpiNandFlash) (offset : ℕ) (l : Lent) (es : List (Event Call)) → FromChip chip unseen (run_at nand_driver flash (Call.Read offset) l es) →
     Delivers nand_driver flash (Call.Read offset) l es (byte_at flash.setup.geometry chip) offset
-unfolding sort_of rust_program
+unfolding sort_of coded_rust
 read chip flash offset l es h =
     let xs = run_at nand_driver flash (Call.Read offset) l es in
     let s = seen flash offset l es in
     delivers known flash (Call.Read offset) l refl (byte_at flash.setup.geometry chip) offset es
     (from-placed chip flash.setup.geometry offset (read_so_far xs) (subst (Genuine chip) s.reads (watched-genuine chip xs unseen h tt)))
     (λ e. (s.whole e).filled)
-    (λ a bounds program. read-at-once flash.setup offset (length l.buffer) _ _ program)
+    (λ a bounds program. read-at-once flash.setup offset (length l.buffer) _ _ (sym (Agrees.same flash.setup bounds (Call.Read offset) (length l.buffer) (length l.given)) ∙ program))
 
 -- ---- what both watchers see, of a run in front of which the observer saw s
 
@@ -159,14 +160,15 @@ module _ (chip : Chip) (flash : SpiNandFlash) (c : Call) (page column : ℕ) (l 
 
 read-page-delivers : (chip : Chip) (flash : SpiNandFlash) (page : ℕ) (l : Lent) (es : List (Event Call)) → FromChip chip unseen (run_at nand_driver flash (Call.ReadPage page) l es) →
     Delivers nand_driver flash (Call.ReadPage page) l es (chip page) 0
-unfolding sort_of rust_program
+unfolding sort_of coded_rust
 read-page-delivers chip flash page l es answered =
     let R = OfPage page 0 in
     delivers-page chip flash (Call.ReadPage page) page 0 l es refl unseen refl
-    (λ inside. shows_then watcher (Q R)
+    (λ inside. rw (Agrees.same flash.setup inside (Call.ReadPage page) (length l.buffer) (length l.given))
+    (shows_then watcher (Q R)
     (shows-mono watcher (Q R) (λ v y c. ap (λ (z : Sights). length z.1.bytes) c.4 ∙ c.2)
     (reads-page flash.setup inside page (length l.buffer) (Sink.Buffer 0) R blank refl refl (λ new e. refl) false unloaded))
-    (λ v y e. shows-ret watcher (Q R) e))
+    (λ v y e. shows-ret watcher (Q R) e)))
     answered
 
 -- ---- read_cache behind a page_read
@@ -183,13 +185,14 @@ module _ (flash : SpiNandFlash) (page : ℕ) (k : Lent) (ds : List (Event Call))
   steps = steps_at nand_driver flash (Call.PageRead page) k ds
 
   page-loaded : Loaded page (each unseen steps)
-  unfolding sort_of rust_program
+  unfolding sort_of coded_rust
   page-loaded =
       subst (Loaded page) (both-see unseen steps)
       (steps-see known flash (Call.PageRead page) k ds watcher (Q Any) (Loaded page) (unseen, got false []) tt
-      (λ inside. shows_then watcher (Q Any)
+      (λ inside. rw (Agrees.same flash.setup inside (Call.PageRead page) (length k.buffer) (length k.given))
+      (shows_then watcher (Q Any)
       (shows-mono watcher (Q Any) (λ u y h. (h.0, h.2)) (loads-page flash.setup inside page Any false unloaded blank tt tt))
-      (λ u y h. shows-ret watcher (Q Any) h))
+      (λ u y h. shows-ret watcher (Q Any) h)))
       Takes.Nothing refl e).1
 
   module _ (chip : Chip) (column : ℕ) (l : Lent) (es : List (Event Call)) where
@@ -198,16 +201,17 @@ module _ (flash : SpiNandFlash) (page : ℕ) (k : Lent) (ds : List (Event Call))
 
     read-cache-delivers : FromChip chip (sight_of steps) (run_at nand_driver after (Call.ReadCache column) l es) →
         Delivers nand_driver after (Call.ReadCache column) l es (chip page) column
-    unfolding sort_of rust_program
+    unfolding sort_of coded_rust
     read-cache-delivers h =
         let R = OfPage page column in
         let t = verdict_noted page-loaded.0 (loaded page blank) in
         let same : sight_of steps ≡ (at false (judged page) t).0 = ap (λ (z : Sights). z.0) page-loaded.1 in
         delivers-page chip after (Call.ReadCache column) page column l es refl (at false (judged page) t).0 refl
-        (λ inside. shows_then watcher (Q R)
+        (λ inside. rw (Agrees.same after.setup inside (Call.ReadCache column) (length l.buffer) (length l.given))
+        (shows_then watcher (Q R)
         (shows-mono watcher (Q R) (λ v y c. ap (λ (z : Sights). length z.1.bytes) c.2 ∙ c.1)
         (reads-cache after.setup inside page R column (length l.buffer) (Sink.Buffer 0) t refl (λ new e. refl)))
-        (λ v y e. shows-ret watcher (Q R) e))
+        (λ v y e. shows-ret watcher (Q R) e)))
         (subst (λ s. FromChip chip s (run_at nand_driver after (Call.ReadCache column) l es)) same h)
 
 -- ---- write_page
@@ -265,21 +269,23 @@ module _ (flash : SpiNandFlash) (page : ℕ) (l : Lent) (es : List (Event Call))
   Written y = (length l.given ≡ size) × (1 ≤ size) × Came y
 
   page-written : Written (each unseen written)
-  unfolding sort_of rust_program
+  unfolding sort_of coded_rust
   page-written =
       subst Written (both-see unseen written)
       (steps-see known flash (Call.WritePage page) l es watcher (Q Any) Written (unseen, got false []) tt
-      (λ inside. shows_then watcher (Q Any) (writes-page flash.setup inside page (length l.given))
-      (λ u y h. shows-ret watcher (Q Any) (h.0, some-page flash.setup.geometry inside, h.1.1)))
+      (λ inside. rw (Agrees.same flash.setup inside (Call.WritePage page) (length l.buffer) (length l.given))
+      (shows_then watcher (Q Any) (writes-page flash.setup inside page (length l.given))
+      (λ u y h. shows-ret watcher (Q Any) (h.0, some-page flash.setup.geometry inside, h.1.1))))
       (Takes.Data (length l.given)) refl e).1
 
   same-read : (watched (reader reads_cache) (got false []) written).bytes ≡ take size beside
-  unfolding sort_of rust_program
+  unfolding sort_of coded_rust
   same-read =
       subst (λ (z : Got × List ℕ). z.0.bytes ≡ take size z.1) (both-watch (reader reads_cache) lent_beside written (got false []) [])
       (steps-see known flash (Call.WritePage page) l es reading (λ z. Unit {0}) (λ z. z.0.bytes ≡ take size z.1) (got false [], []) tt
-      (λ inside. shows_then reading (λ z. Unit {0}) (writes-same flash.setup (some-page flash.setup.geometry inside) page (length l.given))
-      (λ u y h. shows-ret reading (λ z. Unit {0}) h))
+      (λ inside. rw (Agrees.same flash.setup inside (Call.WritePage page) (length l.buffer) (length l.given))
+      (shows_then reading (λ z. Unit {0}) (writes-same flash.setup (some-page flash.setup.geometry inside) page (length l.given))
+      (λ u y h. shows-ret reading (λ z. Unit {0}) h)))
       (Takes.Data (length l.given)) refl e).1
 
   abbrev came : Came (each unseen written)

@@ -27,8 +27,10 @@ use Rattle.spi_nand.specs.declared.phase.Phase.{Phase}
 use Rattle.spi_nand.specs.declared.setup.Setup.{Setup}
 use Rattle.nand_steps.specs.Register.{geometry_at, geometry_for}
 use Rattle.nand_driver.specs.Call.{given_at, fresh_setup}
-use Rattle.nand_runs.specs.Rust.{Nothing, MAX-VERIFY-PAGE-SIZE, wanted-of, read-configuration, read-protection, write-register, reset, jedec-id, reset-and-identify, ensure-configuration, unprotect, bring-up, resolved, constructed, with-config}
-use Rattle.nand_runs.specs.Program.{Left, page_taken, refused-page, program_of, rust_program}
+use Rattle.nand_runs.specs.Rust.{Nothing, MAX-VERIFY-PAGE-SIZE, wanted-of, read-configuration, read-protection, write-register, reset, jedec-id, reset-and-identify, ensure-configuration, unprotect, bring-up}
+use Rattle.nand_runs.proofs.AsCoded.{resolved, constructed, with-config}
+use Rattle.nand_runs.specs.Program.{Left, page_taken, refused-page, rust_program}
+use Rattle.nand_runs.proofs.AsCoded.{coded, coded_rust}
 use Rattle.nand_runs.proofs.Meaning.{DONE, brought-up, unprotected, unprotect-on, configured, check-configured, configure-on, identified, meaning_at, meaning}
 
 -- ---- bring_up behind the identification
@@ -83,7 +85,7 @@ small : (setting : Option NandGeometry) (id : NandJedecId) → page_taken settin
 small None id h = le-leb _ MAX-VERIFY-PAGE-SIZE (geometries-hold.known id).page
 small (Some own) id h = h
 
-pub large : (setting : Option NandGeometry) (id : NandJedecId) → page_taken setting ≡ false → leb (resolved setting id).page_size MAX-VERIFY-PAGE-SIZE ≡ false
+large : (setting : Option NandGeometry) (id : NandJedecId) → page_taken setting ≡ false → leb (resolved setting id).page_size MAX-VERIFY-PAGE-SIZE ≡ false
 large None id h = absurd (true≢false h)
 large (Some own) id h = h
 
@@ -166,6 +168,6 @@ module _ (config : SpiNandConfig) where
         ap (ask Transfer.Raise)
         (fun_ext (λ v. bind_assoc reset (λ u. jedec-id) (λ id. fail FlashError.NotSupported) ∙ ap (λ f. reset >> (jedec-id >>= f)) (fun_ext turned)))
 
-  pub constructs : (s : Setup) (b d : ℕ) → program_of s (Call.WithConfig config) b d ≡ ask Transfer.Raise (meaning (place fresh Phase.Raised))
-  unfolding rust_program
+  pub constructs : (s : Setup) (b d : ℕ) → coded s (Call.WithConfig config) b d ≡ ask Transfer.Raise (meaning (place fresh Phase.Raised))
+  unfolding coded_rust rust_program
   constructs s b d = by_cases (page_taken config.geometry) (λ h. rw h (builds h)) (λ h. rw h (stops h))

@@ -28,7 +28,8 @@ use Rattle.spi_nand.proofs.Geometries.{geometries-hold}
 use Rattle.spi_nand.specs.Setup.{init_of}
 use Rattle.spi_nand.specs.Transfer.{cache_read_at, cache_read_transfer, cache_load_at, cache_load_transfer, in_cache, in_range}
 use Rattle.spi_nand.specs.declared.setup.Setup.{Setup}
-use Rattle.nand_runs.specs.Rust.{MAX-VERIFY-PAGE-SIZE, read-register, read-status, read-configuration, read-protection, write-enable, write-register, disable-quad, reset, id-of, jedec-id, reset-and-identify, wait-ready, wanted-of, ensure-configuration, unprotect, bring-up, load-page, page-read, read-cache, load-program-data, program-execute, read-page, write-page, erase-block, reading, read, is-bad-block, filling, mark-bad-block, resolved, constructed, with-config}
+use Rattle.nand_runs.specs.Rust.{MAX-VERIFY-PAGE-SIZE, read-register, read-status, read-configuration, read-protection, write-enable, write-register, disable-quad, reset, id-of, jedec-id, reset-and-identify, wait-ready, wanted-of, ensure-configuration, unprotect, bring-up, load-page}
+use Rattle.nand_runs.proofs.AsCoded.{page-read, read-cache, load-program-data, program-execute, read-page, write-page, erase-block, reading, read, is-bad-block, filling, mark-bad-block, resolved, constructed, with-config}
 use Rattle.nand_runs.specs.Program.{page_taken, refused-page}
 use Rattle.nand_runs.specs.Bound.{pages_touched, fillers}
 use Rattle.nand_runs.specs.ProgramBounds.{PageFits, BlockFits, WholePage}

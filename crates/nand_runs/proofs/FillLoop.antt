@@ -10,7 +10,7 @@ use Rattle.spi_flash.proofs.Loops.{without-fuel}
 use Rattle.spi_nand.specs.declared.config.NandGeometry.{NandGeometry}
 use Rattle.spi_nand.specs.Transfer.{filler_of}
 use Rattle.spi_nand.specs.declared.setup.Setup.{Setup}
-use Rattle.nand_runs.specs.Rust.{load-program-data, fill-loop, filling}
+use Rattle.nand_runs.proofs.AsCoded.{load-program-data, fill-loop, filling}
 
 -- a turn goes on
 pub filler-some : (g : NandGeometry) (column : ℕ) → column < g.page_size → 1 ≤ filler_of g column

@@ -14,6 +14,7 @@ use Rattle.spi_nand.specs.declared.setup.Setup.{Setup}
 use Rattle.nand_runs.specs.Bound.{delay_bound, weight_of, most_actions}
 use Rattle.nand_runs.specs.Program.{Left, rust_program, program_of}
 use Rattle.nand_runs.specs.ProgramBounds.{Begins, can_end}
+use Rattle.nand_runs.proofs.Agrees as Agrees
 use Rattle.nand_runs.proofs.Begins.{begins}
 use Rattle.nand_runs.proofs.ProgramBounds.{program-bounds}
 use Rattle.nand_runs.specs.Run.{sort_of, nand_driver}
@@ -94,7 +95,7 @@ module _ (s : Setup) (c : Call) (b : ℕ) where
     same = same-work s c b (length given)
 
     begun : Begins held c b (length given)
-    begun = begins held b (length given) c (subst Asks (sym same.program) asks)
+    begun = begins held b (length given) c (subst Asks (sym same.program ∙ Agrees.same held h c b (length given)) asks)
 
     reached : Reaches given delays (delay_bound s c b) (program_of s c b (length given))
     reached =

@@ -16,7 +16,8 @@ use Rattle.spi_nand.specs.declared.opcode.Operation.{Operation}
 use Rattle.spi_nand.specs.Transfer.{in_range}
 use Rattle.spi_nand.specs.declared.setup.Setup.{Setup}
 use Rattle.nand_runs.specs.Bound.{pages_touched}
-use Rattle.nand_runs.specs.Rust.{wait-ready, load-page, page-read, reading, read}
+use Rattle.nand_runs.specs.Rust.{wait-ready, load-page}
+use Rattle.nand_runs.proofs.AsCoded.{page-read, reading, read}
 use Rattle.nand_runs.proofs.Pages.{pages, some-page, in-range, pages_left, pages-first, one_fewer, pages-done}
 use Rattle.nand_runs.proofs.ReadLoop.{reading-loop}
 

@@ -12,7 +12,7 @@ use Rattle.qspi.proofs.Cases.{by_cases}
 use Rattle.spi_flash.specs.Path.{Bounded}
 use Rattle.spi_flash.specs.Prog.{Prog, ret, ◌>>=◌, ◌>>◌, refuse, transfer}
 use Rattle.spi_flash.specs.declared.error.FlashError.{FlashError}
-use Rattle.spi_flash.proofs.Laws.{bind_assoc, bounded-more, answered}
+use Rattle.spi_flash.proofs.Laws.{bind_assoc, bounded-more}
 use Rattle.spi_flash.proofs.Dataless.{data_uses}
 use Rattle.spi_flash.proofs.Unread.{buffer_reads, none-delayed, unread-delayed}
 use Rattle.flash_runs.specs.Driver.{takes_of}
@@ -30,12 +30,15 @@ use Rattle.spi_nand.specs.Transfer.{cache_read_at, cache_read_transfer, in_cache
 use Rattle.spi_nand.proofs.Pieces.{chunk-within}
 use Rattle.spi_nand.specs.declared.call.Call.{Call}
 use Rattle.spi_nand.specs.declared.setup.Setup.{Setup}
-use Rattle.nand_runs.specs.Rust.{uncorrectable, read-status, wait-ready, load-page, page-read, read-cache, read-page, reading, read}
+use Rattle.nand_runs.specs.Rust.{uncorrectable, read-status, wait-ready, load-page}
+use Rattle.nand_runs.proofs.AsCoded.{page-read, read-cache, read-page, reading, read}
 use Rattle.nand_runs.specs.Observer.{reads_cache}
+use Rattle.nand_runs.proofs.AsCoded.{coded_rust}
+use Rattle.nand_runs.proofs.Agrees.{same, same-construction}
 use Rattle.nand_runs.specs.Program.{Left, rust_program, program_of}
 use Rattle.nand_runs.proofs.ReadLoop.{chunk-some, reading-loop}
 use Rattle.nand_runs.specs.Bound.{weight_of}
-use Rattle.nand_runs.proofs.Weights.{bounded-with-config, weighed-construction, weighed}
+use Rattle.nand_runs.proofs.Weights.{weighed-construction, weighed}
 use Rattle.nand_runs.specs.Run.{sort_of, nand_driver}
 use Rattle.nand_runs.proofs.Meaning.{DONE}
 
@@ -46,7 +49,7 @@ unfolding wait-ready
 unread-figures = reads-weigh wait-ready (λ operation. unread-delayed (get_feature_command REG-STATUS) busy_value (timings_of operation))
 
 unread : (s : Setup) → in_bounds s.geometry ≡ true → (c : Call) (b d : ℕ) → weight_of read_figures s c b ≤ 0 → Bounded buffer_reads 0 (program_of s c b d)
-unread s h c b d none = bounded-more none (weighed unread-figures s h c b d)
+unread s h c b d none = rw (same s h c b d) (bounded-more none (weighed unread-figures s h c b d))
 
 -- ---- a load asks for registers alone
 
@@ -136,9 +139,9 @@ module _ (s : Setup) where
 -- ---- every call
 
 pub lent : (s : Setup) (c : Call) (b d : ℕ) → Bounds nand_driver s c b d → LendsAs nand_driver s c b d (takes_of (sort_of c b d))
-unfolding sort_of rust_program weight_of
-lent s Call.New b d h = answered _ (omega arith) (bounded-with-config unread-figures single_config)
-lent s (Call.WithConfig config) b d h = bounded-more (omega arith) (weighed-construction unread-figures s config b d)
+unfolding sort_of coded_rust rust_program weight_of
+lent s Call.New b d h = rw (same-construction s single_config b d) (bounded-more (omega arith) (weighed-construction unread-figures s single_config b d))
+lent s (Call.WithConfig config) b d h = rw (same-construction s config b d) (bounded-more (omega arith) (weighed-construction unread-figures s config b d))
 lent s Call.Info b d h = unread s h Call.Info b d (omega arith)
 lent s Call.Config b d h = unread s h Call.Config b d (omega arith)
 lent s Call.Geometry b d h = unread s h Call.Geometry b d (omega arith)
@@ -155,13 +158,13 @@ lent s Call.ResetAndIdentify b d h = unread s h Call.ResetAndIdentify b d (omega
 lent s Call.EnsureConfiguration b d h = unread s h Call.EnsureConfiguration b d (omega arith)
 lent s Call.Unprotect b d h = unread s h Call.Unprotect b d (omega arith)
 lent s (Call.PageRead page) b d h = unread s h (Call.PageRead page) b d (omega arith)
-lent s (Call.ReadCache column) b d h = (refl, fills-cache s column b)
+lent s (Call.ReadCache column) b d h = (refl, rw (same s h (Call.ReadCache column) b d) (fills-cache s column b))
 lent s (Call.LoadProgramData column) b d h = unread s h (Call.LoadProgramData column) b d (omega arith)
 lent s (Call.ProgramExecute page) b d h = unread s h (Call.ProgramExecute page) b d (omega arith)
-lent s (Call.ReadPage page) b d h = (refl, fills-page s page b)
+lent s (Call.ReadPage page) b d h = (refl, rw (same s h (Call.ReadPage page) b d) (fills-page s page b))
 lent s (Call.WritePage page) b d h = unread s h (Call.WritePage page) b d (omega arith)
 lent s (Call.EraseBlock block) b d h = unread s h (Call.EraseBlock block) b d (omega arith)
-lent s (Call.Read offset) b d h = (refl, fills-read s h offset b)
+lent s (Call.Read offset) b d h = (refl, rw (same s h (Call.Read offset) b d) (fills-read s h offset b))
 lent s (Call.IsBadBlock block) b d h = unread s h (Call.IsBadBlock block) b d (omega arith)
 lent s (Call.MarkBadBlock block) b d h = unread s h (Call.MarkBadBlock block) b d (omega arith)
 
@@ -172,12 +175,12 @@ unfolding wait-ready
 dataless-figures = data-weigh wait-ready (λ operation. none-delayed data_uses (λ c. omega arith) (λ us. omega arith) (get_feature_command REG-STATUS) busy_value (timings_of operation))
 
 unlooked : (s : Setup) → in_bounds s.geometry ≡ true → (c : Call) (b d : ℕ) → weight_of data_figures s c b ≤ 0 → Bounded data_uses 0 (program_of s c b d)
-unlooked s h c b d none = bounded-more none (weighed dataless-figures s h c b d)
+unlooked s h c b d none = rw (same s h c b d) (bounded-more none (weighed dataless-figures s h c b d))
 
 pub dataless : (s : Setup) (c : Call) (b d : ℕ) → Bounds nand_driver s c b d → LooksAs nand_driver s c b d (takes_of (sort_of c b d))
-unfolding sort_of rust_program weight_of
-dataless s Call.New b d h = answered _ (omega arith) (bounded-with-config dataless-figures single_config)
-dataless s (Call.WithConfig config) b d h = bounded-more (omega arith) (weighed-construction dataless-figures s config b d)
+unfolding sort_of coded_rust rust_program weight_of
+dataless s Call.New b d h = rw (same-construction s single_config b d) (bounded-more (omega arith) (weighed-construction dataless-figures s single_config b d))
+dataless s (Call.WithConfig config) b d h = rw (same-construction s config b d) (bounded-more (omega arith) (weighed-construction dataless-figures s config b d))
 dataless s Call.Info b d h = unlooked s h Call.Info b d (omega arith)
 dataless s Call.Config b d h = unlooked s h Call.Config b d (omega arith)
 dataless s Call.Geometry b d h = unlooked s h Call.Geometry b d (omega arith)

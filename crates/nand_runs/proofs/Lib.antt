@@ -1,3 +1,8 @@
+pub mod AsCoded
+pub mod Agrees
+pub mod RustLoops
+pub mod SameWords
+pub mod NothingWraps
 pub mod Places
 pub mod Meaning
 pub mod Keeps

@@ -36,7 +36,8 @@ use Rattle.spi_nand.specs.declared.phase.ResetFor.{ResetFor}
 use Rattle.spi_nand.specs.declared.phase.Task.{Task}
 use Rattle.spi_nand.specs.declared.setup.Setup.{Setup}
 use Rattle.nand_steps.specs.Register.{geometry_for}
-use Rattle.nand_runs.specs.Rust.{Nothing, MAX-VERIFY-PAGE-SIZE, id-of, wanted-of, uncorrectable, read-status, read-configuration, read-protection, wait-ready, write-enable, write-register, reset, jedec-id, read-cache, load-program-data, program-execute, read-page, erase-block, reading, is-bad-block, filling}
+use Rattle.nand_runs.specs.Rust.{Nothing, MAX-VERIFY-PAGE-SIZE, id-of, wanted-of, uncorrectable, read-status, read-configuration, read-protection, wait-ready, write-enable, write-register, reset, jedec-id}
+use Rattle.nand_runs.proofs.AsCoded.{read-cache, load-program-data, program-execute, read-page, erase-block, reading, is-bad-block, filling}
 use Rattle.flash_runs.proofs.Looking.{looked}
 use Rattle.flash_runs.specs.Driver.{leaving}
 use Rattle.nand_runs.specs.Program.{Left}

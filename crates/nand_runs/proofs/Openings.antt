@@ -37,7 +37,8 @@ use Rattle.nand_steps.specs.Cache.{read_cache_then, load_program_then}
 use Rattle.nand_steps.specs.Page.{page_read_then, is_bad_then, program_then, read_page_then, write_page_then}
 use Rattle.nand_steps.specs.Read.{read_then}
 use Rattle.nand_steps.specs.Block.{erase_then}
-use Rattle.nand_runs.specs.Rust.{Nothing, wanted-of, read-status, read-configuration, read-protection, write-enable, write-register, disable-quad, reset, jedec-id, reset-and-identify, ensure-configuration, unprotect, page-read, read-cache, load-program-data, program-execute, read-page, write-page, erase-block, read, is-bad-block, filling, mark-bad-block}
+use Rattle.nand_runs.specs.Rust.{Nothing, wanted-of, read-status, read-configuration, read-protection, write-enable, write-register, disable-quad, reset, jedec-id, reset-and-identify, ensure-configuration, unprotect}
+use Rattle.nand_runs.proofs.AsCoded.{page-read, read-cache, load-program-data, program-execute, read-page, write-page, erase-block, read, is-bad-block, filling, mark-bad-block}
 use Rattle.nand_runs.specs.Program.{Left}
 use Rattle.nand_runs.proofs.Places.{decide}
 use Rattle.nand_runs.proofs.Meaning.{DONE, compared, confirmed, confirm, program-on, marker-on, fill_on, mark_on, marker-read, verify-on, program-page, read-on, accepted, loaded, after-program, after-erase, written, identify, reset-done, resumed, enabled, configured, check-configured, configure-on, unprotected, unprotect-on, check-disabled, disable-on, answered, meaning_at, meaning}

@@ -4,7 +4,7 @@ use Rattle.std.specs.Prelude.{Option, Some, None}
 use Rattle.spi_nand.specs.declared.config.NandQuadConfig.{NandQuadConfig}
 use Prim.Native.Nat.{ℕ}
 use mathlib.Core.Bool.{Bool, true, false}
-use mathlib.Core.Path.{◌≡◌, refl}
+use mathlib.Core.Path.{◌≡◌, refl, ◌∙◌}
 use lib.ListN.{length}
 use lib.Dec.{ltb, eqb}
 use Rattle.qspi.specs.Choice.{pick}
@@ -39,7 +39,9 @@ use Rattle.nand_steps.specs.Read.{read_from, read_then}
 use Rattle.nand_steps.specs.Block.{erase_then}
 use Rattle.nand_steps.specs.Then.{Then}
 use Rattle.nand_steps.specs.Opening.{opening_of}
-use Rattle.nand_runs.specs.Program.{program_of, rust_program}
+use Rattle.nand_runs.specs.Program.{rust_program}
+use Rattle.nand_runs.proofs.AsCoded.{coded_rust, coded}
+use Rattle.nand_runs.proofs.Agrees.{same, same-construction}
 use Rattle.nand_runs.specs.Run.{sort_of, nand_driver}
 use Rattle.machine.specs.Shape.{opening_as}
 use Rattle.nand_driver.specs.Settle.{then_as}
@@ -110,20 +112,20 @@ module _ (s : Setup) where
 
 -- a call on a built driver
 module _ (s : Setup) (c : Call) (b d : ℕ) where
-  used : (takes : Takes) (x : Then) → sort_of c b d ≡ uses takes → (in_bounds s.geometry ≡ true → program_of s c b d ≡ tree meaning (decide x)) →
+  used : (takes : Takes) (x : Then) → sort_of c b d ≡ uses takes → (in_bounds s.geometry ≡ true → coded s c b d ≡ tree meaning (decide x)) →
       Stays Built s (then_as x) → SelectsAt x → Use nand_driver parts Valid Built meaning s c b d takes (then_as x)
   used takes x sorted follows keeps selects = record {
     sorted = sorted;
-    follows = follows;
+    follows = λ h. same s h c b d ∙ follows h;
     valid = λ h. onward-stays Valid Built s (λ phase k. h) (then_as x) keeps;
     stays = keeps;
     selects = selects;
   }
 
 pub opens : (s : Setup) (c : Call) (b d : ℕ) → OpensAs nand_driver parts Valid Built meaning s c b d (opening_as (opening_of s c b d))
-unfolding opening_of sort_of rust_program
-opens s Call.New b d = record { sorted = refl; follows = λ h. constructs single_config s b d; valid = λ h. h; alike = λ before. refl }
-opens s (Call.WithConfig config) b d = record { sorted = refl; follows = λ h. constructs config s b d; valid = λ h. h; alike = λ before. refl }
+unfolding opening_of sort_of coded_rust rust_program
+opens s Call.New b d = record { sorted = refl; follows = λ h. same-construction s single_config b d ∙ constructs single_config s b d; valid = λ h. h; alike = λ before. refl }
+opens s (Call.WithConfig config) b d = record { sorted = refl; follows = λ h. same-construction s config b d ∙ constructs config s b d; valid = λ h. h; alike = λ before. refl }
 opens s Call.Info b d = record { sorted = refl; follows = refl }
 opens s Call.Config b d = record { sorted = refl; follows = refl }
 opens s Call.Geometry b d = record { sorted = refl; follows = refl }

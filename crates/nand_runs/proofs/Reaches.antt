@@ -19,8 +19,9 @@ use Rattle.spi_nand.specs.Config.{single_config, in_bounds}
 use Rattle.spi_nand.specs.declared.answer.Answer.{Answer}
 use Rattle.spi_nand.specs.declared.call.Call.{Call}
 use Rattle.spi_nand.specs.declared.setup.Setup.{Setup}
-use Rattle.nand_runs.specs.Rust.{mark-bad-block, constructed}
-use Rattle.nand_runs.specs.Program.{Left, rust_program, program_of, refused-page}
+use Rattle.nand_runs.proofs.AsCoded.{mark-bad-block, constructed}
+use Rattle.nand_runs.specs.Program.{Left, rust_program, refused-page}
+use Rattle.nand_runs.proofs.AsCoded.{coded_rust, coded}
 use Rattle.nand_runs.specs.Bound.{delay_bound}
 use Rattle.nand_runs.specs.ProgramBounds.{Begins, can_end}
 use Rattle.nand_runs.proofs.Bounds.{never-is-bad}
@@ -36,8 +37,8 @@ module _ (flash : Setup) (bounds : in_bounds flash.geometry ≡ true) where
 
   -- every call that begins comes to its bill at a good end, but those that cannot end well
   pub ends : (call : Call) (b : ℕ) (given : List ℕ) → AllBytes given → Begins flash call b (length given) → can_end flash call ≡ true →
-      (left : Left) × Ends given delays (delay_bound flash call b) left (program_of flash call b (length given))
-  unfolding rust_program delay_bound
+      (left : Left) × Ends given delays (delay_bound flash call b) left (coded flash call b (length given))
+  unfolding coded_rust rust_program delay_bound
   ends Call.New b given s h c = (_, ends-bind _ (ends-with-config given single_config refl) ends-ret)
   ends (Call.WithConfig config) b given s h c = (leaving (constructed config found) Answer.Done, rw c (ends-bind _ (ends-with-config given config c) ends-ret))
   ends Call.Info b given s h c = (_, ends-ret)
@@ -79,8 +80,8 @@ module _ (flash : Setup) (bounds : in_bounds flash.geometry ≡ true) where
   unfolding refused-page
   never-refused-page = never-then _ (never-then _ never-fail)
 
-  pub never : (call : Call) (b d : ℕ) → can_end flash call ≡ false → Never (program_of flash call b d)
-  unfolding rust_program ◌>>◌
+  pub never : (call : Call) (b d : ℕ) → can_end flash call ≡ false → Never (coded flash call b d)
+  unfolding coded_rust rust_program ◌>>◌
   never (Call.WithConfig config) b d c = rw c never-refused-page
   never (Call.IsBadBlock block) b d c = never-left _ (never-is-bad flash bounds block (no-spare c))
   never (Call.MarkBadBlock block) b d c = never-left _ (never-mark block (no-spare c))
@@ -88,8 +89,8 @@ module _ (flash : Setup) (bounds : in_bounds flash.geometry ≡ true) where
 
   -- a call that cannot end well comes to its bill where it fails
   stopped : (call : Call) (b : ℕ) (given : List ℕ) → Begins flash call b (length given) → can_end flash call ≡ false →
-      Reaches given delays (delay_bound flash call b) (program_of flash call b (length given))
-  unfolding rust_program delay_bound ◌>>◌
+      Reaches given delays (delay_bound flash call b) (coded flash call b (length given))
+  unfolding coded_rust rust_program delay_bound ◌>>◌
   stopped Call.New b given h c = absurd (true≢false c)
   stopped (Call.WithConfig config) b given h c = rw c (reaches-refused-page given)
   stopped Call.Info b given h c = absurd (true≢false c)
@@ -119,5 +120,5 @@ module _ (flash : Setup) (bounds : in_bounds flash.geometry ≡ true) where
   stopped (Call.MarkBadBlock block) b given h c = rw (not-false (eqb flash.geometry.oob_size 0) c) (reaches-never _ (never-mark block (no-spare c)) (reaches-mark given flash bounds block h (no-spare c)))
 
   pub reached : (call : Call) (b : ℕ) (given : List ℕ) → AllBytes given → Begins flash call b (length given) →
-      Reaches given delays (delay_bound flash call b) (program_of flash call b (length given))
+      Reaches given delays (delay_bound flash call b) (coded flash call b (length given))
   reached call b given s h = by_cases (can_end flash call) (λ c. ends-reaches (ends call b given s h c).1) (λ c. stopped call b given h c)

@@ -32,7 +32,8 @@ use Rattle.spi_nand.specs.declared.opcode.Operation.{Operation}
 use Rattle.spi_nand.specs.declared.setup.Setup.{Setup}
 use Rattle.nand_runs.specs.Chip.{lent_beside}
 use Rattle.nand_runs.specs.Observer.{reads_cache}
-use Rattle.nand_runs.specs.Rust.{wait-ready, write-enable, load-program-data, program-execute, read-cache, read-page, write-page}
+use Rattle.nand_runs.specs.Rust.{wait-ready, write-enable}
+use Rattle.nand_runs.proofs.AsCoded.{load-program-data, program-execute, read-cache, read-page, write-page}
 use Rattle.nand_runs.proofs.Lent.{quiet-status, quiet-page-read}
 
 abbrev pub Beside : Type 0

@@ -12,7 +12,7 @@ use Rattle.spi_flash.proofs.Loops.{turn_of, without-fuel}
 use Rattle.spi_nand.specs.declared.config.NandGeometry.{NandGeometry}
 use Rattle.spi_nand.specs.Transfer.{place_of, page_at, column_at, chunk_of}
 use Rattle.spi_nand.specs.declared.setup.Setup.{Setup}
-use Rattle.nand_runs.specs.Rust.{page-read, read-cache, read-loop, reading}
+use Rattle.nand_runs.proofs.AsCoded.{page-read, read-cache, read-loop, reading}
 
 -- a turn goes on
 pub chunk-some : (g : NandGeometry) (offset len done : ℕ) → 1 ≤ g.page_size → done < len → 1 ≤ chunk_of g offset len done

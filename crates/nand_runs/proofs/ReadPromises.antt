@@ -3,11 +3,11 @@ use Prim.Native.Nat.{ℕ, ◌*◌}
 use native.Mathlib.Omega.{arith}
 use mathlib.Core.Bool.{true}
 use mathlib.Core.Logic.{⊎_elim}
-use mathlib.Core.Path.{◌≡◌, refl}
+use mathlib.Core.Path.{◌≡◌, refl, sym, subst, ◌∙◌}
 use mathlib.Core.List.{List, []}
 use lib.ListN.{length}
 use Rattle.spi_flash.specs.Loan.{Lent}
-use Rattle.spi_flash.specs.Path.{delays, Ends}
+use Rattle.spi_flash.specs.Path.{delays, Bounded, Ends}
 use Rattle.spi_flash.specs.Run.{Event, Entry, delay_asked}
 use Rattle.spi_flash.proofs.Laws.{ends-ret, ends-then, ends-eq}
 use Rattle.flash_runs.specs.Driver.{leaving, takes_at, program_at, run_at}
@@ -20,6 +20,7 @@ use Rattle.flash_runs.proofs.General.{decide_next}
 use Rattle.flash_runs.proofs.Lent.{lent_bytes}
 use Rattle.flash_runs.proofs.Supplies.{Asks}
 use Rattle.flash_runs.proofs.Views.{shape, Opens, view, no_run, begun-opens, opens-run}
+use Rattle.spi_nand.specs.Config.{in_bounds}
 use Rattle.spi_nand.specs.Transfer.{in_range}
 use Rattle.spi_nand.specs.declared.answer.Answer.{Answer}
 use Rattle.spi_nand.specs.declared.call.Call.{Call}
@@ -27,7 +28,9 @@ use Rattle.spi_nand.specs.declared.config.NandGeometry.{NandGeometry}
 use Rattle.spi_nand.specs.declared.opcode.Operation.{Operation}
 use Rattle.nand_driver.specs.Settle.{SpiNandFlash}
 use Rattle.nand_runs.specs.Bound.{pages_touched, delay_bound}
-use Rattle.nand_runs.specs.Program.{Left, rust_program}
+use Rattle.nand_runs.specs.Program.{Left}
+use Rattle.nand_runs.proofs.AsCoded.{coded_rust, coded}
+use Rattle.nand_runs.proofs.Agrees.{same}
 use Rattle.nand_runs.specs.Promises.{EndsAsking, ReadsAsAsked}
 use Rattle.nand_runs.specs.ReadSeen.{ReadSeen}
 use Rattle.nand_runs.specs.Run.{sort_of, nand_driver}
@@ -53,13 +56,17 @@ module _ (flash : SpiNandFlash) (offset : ℕ) (l : Lent) (es : List (Event Call
   abbrev run : List (Entry Call Left)
   run = run_at nand_driver flash (Call.Read offset) l es
 
+  in-words : in_bounds flash.setup.geometry ≡ true → program_at nand_driver flash.setup (Call.Read offset) l ≡ coded flash.setup (Call.Read offset) len (length l.given)
+  in-words inside = same flash.setup inside (Call.Read offset) len (length l.given)
+
   opened : Opens known (shape known flash) (Call.Read offset) l → ReadSeen run geometry offset len
-  unfolding sort_of rust_program delay_bound
+  unfolding sort_of coded_rust delay_bound
   opened o =
       rw (opens-run known flash o es)
       (read-seen flash.setup o.bounds offset len Call Valid (decide_next parts) meaning simulates (takes_at nand_driver (Call.Read offset) l)
-      o.first o.at o.valid (leaving flash.setup Answer.Done) o.program
-      (program-bounds.bounded flash.setup o.bounds (Call.Read offset) len (length l.given)) (Call.Read offset) l es)
+      o.first o.at o.valid (leaving flash.setup Answer.Done) (sym (in-words o.bounds) ∙ o.program)
+      (subst (Bounded delays (delay_bound flash.setup (Call.Read offset) len)) (in-words o.bounds) (program-bounds.bounded flash.setup o.bounds (Call.Read offset) len (length l.given)))
+      (Call.Read offset) l es)
 
   no-run-seen : (xs : List (Entry Call Left)) → xs ≡ [] → ReadSeen xs geometry offset len
   unfolding watched bytes_read delay_asked Succeeded
@@ -73,11 +80,12 @@ module _ (flash : SpiNandFlash) (offset : ℕ) (l : Lent) (es : List (Event Call
 module _ (flash : SpiNandFlash) (offset : ℕ) (l : Lent) (begun : Begun nand_driver flash (Call.Read offset) l) where
   ends-asking-on : (o : Opens known (shape known flash) (Call.Read offset) l) (n d : ℕ) → n ≡ pages_touched flash.setup.geometry offset (length l.buffer) * d →
       Ends l.given delays d tt (wait-ready Operation.PageRead) → EndsAsking nand_driver flash (Call.Read offset) l n
-  unfolding sort_of rust_program
+  unfolding sort_of coded_rust
   ends-asking-on o n d e waits =
-      let inside : in_range flash.setup.geometry offset (length l.buffer) ≡ true = begins flash.setup (length l.buffer) (length l.given) (Call.Read offset) (asks-of o) in
+      let words = same flash.setup o.bounds (Call.Read offset) (length l.buffer) (length l.given) in
+      let inside : in_range flash.setup.geometry offset (length l.buffer) ≡ true = begins flash.setup (length l.buffer) (length l.given) (Call.Read offset) (subst Asks words (asks-of o)) in
       let r = ends-asking known flash (Call.Read offset) l o n (leaving flash.setup Answer.Done)
-      (ends-eq (omega (arith, e)) (ends-then (read-by l.given flash.setup o.bounds offset (length l.buffer) inside d waits) ends-ret)) in
+      (subst (Ends l.given delays n (leaving flash.setup Answer.Done)) (sym words) (ends-eq (omega (arith, e)) (ends-then (read-by l.given flash.setup o.bounds offset (length l.buffer) inside d waits) ends-ret))) in
       record {
         replies = r.0;
         real = r.1;

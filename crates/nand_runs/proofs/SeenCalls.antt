@@ -36,7 +36,8 @@ use Rattle.spi_nand.specs.Transfer.{register_transfer, cache_read_at, cache_read
 use Rattle.spi_nand.specs.declared.setup.Setup.{Setup}
 use Rattle.nand_runs.specs.Observer.{reads_cache, Load, unloaded, waited, judged, other, ReadByte, Sight, load_after, verdict_bits, verdicts_after, bytes_at, observer}
 use Rattle.nand_runs.specs.Observer as Observer
-use Rattle.nand_runs.specs.Rust.{read-status, wait-ready, write-enable, load-page, uncorrectable, page-read, read-cache, load-program-data, program-execute}
+use Rattle.nand_runs.specs.Rust.{read-status, wait-ready, write-enable, load-page, uncorrectable}
+use Rattle.nand_runs.proofs.AsCoded.{page-read, read-cache, load-program-data, program-execute}
 
 -- ---- numbers
 

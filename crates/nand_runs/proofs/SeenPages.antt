@@ -18,7 +18,7 @@ use Rattle.spi_nand.specs.Transfer.{in_cache}
 use Rattle.spi_nand.specs.declared.setup.Setup.{Setup}
 use Rattle.spi_nand.proofs.Geometries.{geometries-hold}
 use Rattle.nand_runs.specs.Observer.{Load, unloaded, judged, ReadByte, bytes_at}
-use Rattle.nand_runs.specs.Rust.{page-read, read-cache, read-page, write-page}
+use Rattle.nand_runs.proofs.AsCoded.{page-read, read-cache, read-page, write-page}
 use Rattle.nand_runs.proofs.SeenCalls.{watcher, Tally, loaded, programmed, verdict_noted, bytes_came, Sights, at, watcher, Q, Right, Sees, from, loading-page, reading-cache, idle-then, enabling, loading-data, executing}
 
 -- before a call: nothing was seen

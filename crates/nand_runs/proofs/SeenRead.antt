@@ -22,7 +22,7 @@ use Rattle.spi_nand.specs.declared.setup.Setup.{Setup}
 use Rattle.nand_runs.specs.Bound.{first_touched, last_touched, pages_touched}
 use Rattle.nand_runs.specs.Observer.{ReadByte, read_byte, Load, judged, unloaded, bytes_at}
 use Rattle.nand_runs.specs.ReadSeen.{up_from, touched, placed, NoneUncorrectable}
-use Rattle.nand_runs.specs.Rust.{page-read, read-cache, read-loop, reading, read}
+use Rattle.nand_runs.proofs.AsCoded.{page-read, read-cache, read-loop, reading, read}
 use Rattle.nand_runs.proofs.Pages.{pages, some-page, page-fits, in-range, from-to, place-of, pages_left, pages-first, chunk-within, one_fewer, pages-done}
 use Rattle.nand_runs.proofs.ReadLoop.{chunk-some}
 use Rattle.nand_runs.proofs.SeenCalls.{Tally, loaded, verdict_noted, bytes_came, Sights, at, watcher, Q, Right, Sees, from, loading-page, reading-cache}

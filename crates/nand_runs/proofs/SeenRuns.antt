@@ -24,7 +24,7 @@ use Rattle.spi_nand.specs.declared.setup.Setup.{Setup}
 use Rattle.nand_runs.specs.Bound.{pages_touched}
 use Rattle.nand_runs.specs.Observer.{reads_cache, unseen, observer}
 use Rattle.nand_runs.specs.ReadSeen.{sight_of, read_so_far, ReadSeen}
-use Rattle.nand_runs.specs.Rust.{read}
+use Rattle.nand_runs.proofs.AsCoded.{read}
 use Rattle.nand_runs.proofs.LeastDelay.{least-read}
 use Rattle.nand_runs.proofs.SeenCalls.{Sights, watcher, Q}
 use Rattle.nand_runs.proofs.SeenRead.{Sound, Whole, read-shows}

@@ -30,10 +30,13 @@ use Rattle.spi_nand.specs.Transfer.{in_range, place_of, page_at}
 use Rattle.nand_driver.specs.Settle.{SpiNandFlash}
 use Rattle.nand_runs.specs.Bound.{pages_touched}
 use Rattle.nand_runs.specs.Observer.{reads_cache, unseen, observer}
-use Rattle.nand_runs.specs.Program.{Left, rust_program}
+use Rattle.nand_runs.specs.Program.{Left}
 use Rattle.nand_runs.specs.ReadSeen.{sight_of, read_so_far, touched, placed, NoneUncorrectable, ReadSeen}
 use Rattle.nand_runs.specs.Run.{sort_of, nand, nand_driver}
-use Rattle.nand_runs.specs.Rust.{load-page, page-read, read-loop, reading, read}
+use Rattle.nand_runs.specs.Rust.{load-page}
+use Rattle.nand_runs.proofs.AsCoded.{page-read, read-loop, reading, read}
+use Rattle.nand_runs.proofs.AsCoded.{coded_rust}
+use Rattle.nand_runs.proofs.Agrees as Agrees
 use Rattle.nand_runs.proofs.Is.{nand-is}
 use Rattle.nand_runs.proofs.Known.{known}
 use Rattle.nand_runs.proofs.Places.{parts}
@@ -107,9 +110,9 @@ module _ (flash : SpiNandFlash) (offset : ℕ) (l : Lent) (es : List (Event Call
   keep = refusals-keep nand_driver parts nand-is
 
   empty : (GivesAction began → ⊥) → Succeeded (steps_at nand_driver flash c l es) → length l.buffer ≡ 0
-  unfolding sort_of rust_program Settling.settled
+  unfolding sort_of coded_rust Settling.settled
   empty silent s =
-      ⊎_elim (λ x. read-at-once flash.setup offset (length l.buffer) _ _ x.program)
+      ⊎_elim (λ x. read-at-once flash.setup offset (length l.buffer) _ _ (sym (Agrees.same flash.setup x.bounds c (length l.buffer) (length l.given)) ∙ x.program))
       (λ o. absurd (silent (subst GivesAction (sym ((known.is.begins flash c l).given ∙ ap (λ m. m.given) o.is)) tt)))
       (ended-well known flash c l (Takes.Buffer (length l.buffer)) refl es s)
 

@@ -26,8 +26,10 @@ use Rattle.spi_nand.specs.Transfer.{cache_read_at, cache_read_transfer, cache_lo
 use Rattle.spi_nand.specs.declared.call.Call.{Call}
 use Rattle.spi_nand.specs.declared.setup.Setup.{Setup}
 use Rattle.nand_runs.specs.Bound.{pages_touched, fillers, task, enabling, writing, identifying, configuring, unprotecting, constructing, loading, programming, erasing, marking, weight_of}
-use Rattle.nand_runs.specs.Program.{refused-page, page_taken, rust_program, program_of}
-use Rattle.nand_runs.specs.Rust.{read-register, read-status, read-configuration, read-protection, wait-ready, write-enable, write-register, disable-quad, reset, jedec-id, reset-and-identify, wanted-of, ensure-configuration, unprotect, bring-up, load-page, page-read, read-cache, load-program-data, program-execute, read-page, write-page, erase-block, reading, read, is-bad-block, filling, mark-bad-block, with-config}
+use Rattle.nand_runs.specs.Program.{refused-page, page_taken, rust_program}
+use Rattle.nand_runs.proofs.AsCoded.{coded_rust, coded}
+use Rattle.nand_runs.specs.Rust.{read-register, read-status, read-configuration, read-protection, wait-ready, write-enable, write-register, disable-quad, reset, jedec-id, reset-and-identify, wanted-of, ensure-configuration, unprotect, bring-up, load-page}
+use Rattle.nand_runs.proofs.AsCoded.{page-read, read-cache, load-program-data, program-execute, read-page, write-page, erase-block, reading, read, is-bad-block, filling, mark-bad-block, with-config}
 use Rattle.nand_runs.proofs.Pages.{some-page, in-range, page-turns, pages-first, filler-turns, fillers-enough}
 use Rattle.nand_runs.proofs.ReadLoop.{reading-pieces}
 use Rattle.nand_runs.proofs.FillLoop.{filling-loop}
@@ -225,15 +227,15 @@ module _ {w : Transfer → ℕ} {x : Figures Operation} (figures : Weighs w x wa
   -- ---- every call
 
   -- a page that is too large is refused once the id is read
-  pub weighed-construction : (flash : Setup) (config : SpiNandConfig) (b d : ℕ) → Bounded w (constructing x) (program_of flash (Call.WithConfig config) b d)
-  unfolding rust_program
+  pub weighed-construction : (flash : Setup) (config : SpiNandConfig) (b d : ℕ) → Bounded w (constructing x) (coded flash (Call.WithConfig config) b d)
+  unfolding coded_rust rust_program
   weighed-construction flash config b d =
       by_cases (page_taken config.geometry)
       (λ e. rw e (answered _ (omega arith) (bounded-with-config config)))
       (λ e. rw e (bounded-more (omega arith) bounded-refused-page))
 
-  pub weighed : (flash : Setup) → in_bounds flash.geometry ≡ true → (call : Call) (b d : ℕ) → Bounded w (weight_of x flash call b) (program_of flash call b d)
-  unfolding rust_program weight_of
+  pub weighed : (flash : Setup) → in_bounds flash.geometry ≡ true → (call : Call) (b d : ℕ) → Bounded w (weight_of x flash call b) (coded flash call b d)
+  unfolding coded_rust rust_program weight_of
   weighed flash h Call.New b d = answered _ (omega arith) (bounded-with-config single_config)
   weighed flash h (Call.WithConfig config) b d = weighed-construction flash config b d
   weighed flash h Call.Info b d = bounded-ret

@@ -2,8 +2,12 @@ pub mod Promises
 pub mod AsRust
 pub mod Chip
 pub mod Run
+pub mod RustConfig
 pub mod Rust
 pub mod Program
+pub mod Loops
+pub mod SameWords
+pub mod NothingWraps
 pub mod Bound
 pub mod ProgramBounds
 pub mod Observer

@@ -1,24 +1,25 @@
 -- nand/driver.rs, transcribed: a definition for each of its functions, under its names and in its order, but that one which uses
--- others stands behind them (with_config is last). info, config, geometry and free are in `Program.antt`; page_address is in the
--- commands of spi_nand.
+-- others stands behind them (with_config is last). info, config, geometry and free are in `Program.antt`, its config.rs in
+-- `RustConfig.antt`; page_address is in the commands of spi_nand.
 -- `transfer` is one select frame of the Rust (`command`, `command_then_read`, or a quad call between cs_low and cs_high) or one
 -- delay; a bus error in it ends the call, as `?` does. Their bus calls are in `OnBus.antt` of spi_flash.
+-- Numbers neither wrap nor end here; inside the bounds the Rust's do neither (`NothingWraps.antt`), and the driver's own words for
+-- these sums, pieces and tests come to the same (`SameWords.antt`).
 use Rattle.spi_nand.specs.declared.config.NandQuadConfig.{NandQuadConfig}
-use Rattle.std.specs.Prelude.{ℕ, zero, suc, ◌+◌, ◌-◌, ◌/◌, ◌%◌, Bool, true, false, not, ltb, eqb, if◌then◌else◌, Option, Some, None}
+use Rattle.std.specs.Prelude.{ℕ, zero, suc, ◌+◌, ◌-◌, ◌*◌, ◌/◌, ◌%◌, ◌^◌, min, Bool, true, false, not, ltb, leb, eqb, if◌then◌else◌, Option, Some, None}
 use Rattle.std.specs.Int.Bits.{bit_or}
 use Rattle.qspi.specs.Transfer.{command_only}
+use Rattle.qspi.specs.declared.transfer.Body.{Body}
 use Rattle.qspi.specs.declared.transfer.Payload.{Payload}
 use Rattle.qspi.specs.declared.transfer.Sink.{Sink}
 use Rattle.qspi.specs.declared.transfer.Transfer.{Transfer}
+use Rattle.spi_flash.specs.Number.{number_transfer}
 use Rattle.spi_flash.specs.Prog.{Prog, ret, ◌>>=◌, ◌>>◌, refuse, transfer}
 use Rattle.spi_flash.specs.WaitLaw.{delayed_wait}
 use Rattle.spi_flash.specs.declared.error.FlashError.{FlashError}
 use Rattle.spi_nand.specs.Opcode.{REG-STATUS, REG-CONFIGURATION, REG-BLOCK-PROTECTION, timings_of}
 use Rattle.spi_nand.specs.Status.{busy_value, status_of, write_enabled_of, erase_failed_of, program_failed_of, verdict_of, ECC-ENABLE, BUFFER-READ, QUAD-ENABLE, OPERATIONAL, configuration_of, configuration_byte, quad_enabled_of, with_bits, same_configuration, protection_of, is_unlocked}
-use Rattle.spi_nand.specs.Config.{page_count_of, first_page_of, single_config, from_jedec}
-use Rattle.spi_nand.specs.Command.{reset_command, get_feature_command, set_feature_command, write_enable_command, page_read_command, program_execute_command, block_erase_command}
-use Rattle.spi_nand.specs.Transfer.{register_transfer, id_transfer, cache_read_transfer, cache_load_transfer, in_cache, in_range, place_of, page_at, column_at, chunk_of, filler_of}
-use Rattle.spi_nand.specs.Setup.{init_of, setup_of}
+use Rattle.spi_nand.specs.Command.{reset_command, read_id_command, get_feature_command, set_feature_command, write_enable_command, page_read_command, program_execute_command, block_erase_command, read_cache_command, quad_read_cache_command, load_program_data_command, quad_load_program_data_command}
 use Rattle.spi_nand.specs.declared.config.NandGeometry.{NandGeometry}
 use Rattle.spi_nand.specs.declared.config.NandInit.{NandInit}
 use Rattle.spi_nand.specs.declared.config.NandJedecId.{NandJedecId}
@@ -29,6 +30,7 @@ use Rattle.spi_nand.specs.declared.status.EccVerdict.{EccVerdict}
 use Rattle.spi_nand.specs.declared.status.Protection.{Protection}
 use Rattle.spi_nand.specs.declared.status.Status.{Status}
 use Rattle.spi_nand.specs.declared.setup.Setup.{Setup}
+use Rattle.nand_runs.specs.RustConfig.{page_count, capacity, from_jedec, single}
 
 abbrev pub Nothing : Type 0
 Nothing = Unit {0}
@@ -37,10 +39,23 @@ Nothing = Unit {0}
 abbrev pub MAX-VERIFY-PAGE-SIZE : ℕ
 MAX-VERIFY-PAGE-SIZE = 4096
 
+-- FF_CHUNK.len()
+abbrev pub FF-CHUNK-LEN : ℕ
+FF-CHUNK-LEN = 256
+
+-- the Rust's usize::checked_add, of 64 bits
+abbrev pub checked_add : ℕ → ℕ → Option ℕ
+checked_add a b = if ltb (a + b) (2 ^ 64) then Some (a + b) else None
+
+-- fn check_range, fn check_cache_range: `Some(end) if end <= most => Ok(())`, and no other
+abbrev pub ends_within : ℕ → Option ℕ → Bool
+ends_within most (Some end) = leb end most
+ends_within most None = false
+
 -- fn read_register
 abbrev pub read-register : ℕ → Prog ℕ
 read-register register = do
-  v ← transfer (register_transfer register)
+  v ← transfer (number_transfer (get_feature_command register) 1)
   ret (v % 256)
 
 -- fn read_status
@@ -102,7 +117,7 @@ id-of v = record { manufacturer = v / 65536 % 256; device = v % 65536 }
 
 unfoldable pub jedec-id : Prog NandJedecId
 jedec-id = do
-  v ← transfer id_transfer
+  v ← transfer (number_transfer read_id_command 3)
   ret (id-of v)
 
 -- fn reset_and_identify
@@ -145,7 +160,7 @@ bring-up config = do
   before ← ensure-configuration config
   protection ← unprotect
   after ← read-configuration
-  ret (init_of id before after protection)
+  ret (record { id = id; configuration_before = before; configuration_after = after; protection_before = protection })
 
 -- fn load_page
 unfoldable pub load-page : ℕ → Prog Nothing
@@ -160,13 +175,23 @@ uncorrectable EccVerdict.Corrected = false
 uncorrectable EccVerdict.Uncorrectable = true
 uncorrectable EccVerdict.Reserved = false
 
+-- fn read_cache: `if let Some(quad) = self.config.quad`
+abbrev pub cache-read : Option NandQuadConfig → (column n : ℕ) → Sink → Transfer
+cache-read (Some quad) column n sink = Transfer.Framed (quad_read_cache_command quad column) (Body.QuadRead quad.tclqv_ns quad.dummy_margin n sink)
+cache-read None column n sink = Transfer.Framed (read_cache_command column) (Body.Read n sink)
+
+-- fn load_program_data: `if let Some(quad) = self.config.quad`
+abbrev pub cache-load : Option NandQuadConfig → (column : ℕ) → Payload → Transfer
+cache-load (Some quad) column payload = Transfer.Framed (quad_load_program_data_command quad column) (Body.QuadWrite payload)
+cache-load None column payload = Transfer.Framed (load_program_data_command column) (Body.Write payload)
+
 module _ (flash : Setup) where
   abbrev pub geometry : NandGeometry
   geometry = flash.geometry
 
   -- fn check_page
   abbrev pub check-page : ℕ → Prog Nothing
-  check-page page = refuse (not (ltb page (page_count_of geometry))) FlashError.OutOfBounds
+  check-page page = refuse (not (ltb page (page_count geometry))) FlashError.OutOfBounds
 
   -- fn page_read
   unfoldable pub page-read : ℕ → Prog Nothing
@@ -178,19 +203,19 @@ module _ (flash : Setup) where
 
   -- fn check_cache_range
   abbrev pub check-cache-range : ℕ → ℕ → Prog Nothing
-  check-cache-range column n = refuse (not (in_cache geometry column n)) FlashError.OutOfBounds
+  check-cache-range column n = refuse (not (ends_within (geometry.page_size + geometry.oob_size) (checked_add column n))) FlashError.OutOfBounds
 
   -- fn read_cache, into what the Rust lends
   unfoldable pub read-cache : ℕ → ℕ → Sink → Prog ℕ
   read-cache column n sink = do
     check-cache-range column n
-    transfer (cache_read_transfer flash.config column n sink)
+    transfer (cache-read flash.config.quad column n sink)
 
   -- fn load_program_data, of so many bytes
   unfoldable pub load-program-data : ℕ → ℕ → Payload → Prog Nothing
   load-program-data column n payload = do
     check-cache-range column n
-    transfer (cache_load_transfer flash.config column payload)
+    transfer (cache-load flash.config.quad column payload)
     ret tt
 
   -- fn program_execute
@@ -220,7 +245,7 @@ module _ (flash : Setup) where
     same ← read-page page geometry.page_size (Sink.Compare 0)
     refuse (eqb same 0) FlashError.VerifyFailed
 
-  -- `if block >= self.geometry.block_count`; behind it `block * pages_per_block` is exact (`first_page_of`)
+  -- `if block >= self.geometry.block_count`
   abbrev pub check-block : ℕ → Prog Nothing
   check-block block = refuse (not (ltb block geometry.block_count)) FlashError.OutOfBounds
 
@@ -229,46 +254,55 @@ module _ (flash : Setup) where
   erase-block block = do
     check-block block
     write-enable
-    transfer (command_only (block_erase_command (first_page_of geometry block)))
+    transfer (command_only (block_erase_command (block * geometry.pages_per_block)))
     wait-ready Operation.Erase
     status ← read-status
     refuse (erase_failed_of status) FlashError.EraseFailed
 
-  -- fn read: its loop, by fuel; a piece is never empty, so the bytes that are left are fuel enough
-  unfoldable pub read-loop : ℕ → ℕ → ℕ → ℕ → Prog Nothing
+  -- fn check_range
+  abbrev pub check-range : ℕ → ℕ → Prog Nothing
+  check-range offset n = refuse (not (ends_within (capacity geometry) (checked_add offset n))) FlashError.OutOfBounds
+
+  -- fn read: its loop, by fuel, for which the bytes that are left are enough (specs/Loops.antt)
+  unfoldable pub read-loop : (fuel offset len done : ℕ) → Prog Nothing
   read-loop zero offset len done = ret tt
   read-loop (suc fuel) offset len done =
+      let address = offset + done in
+      let page = address / geometry.page_size in
+      let column = address % geometry.page_size in
+      let chunk = min (geometry.page_size - column) (len - done) in
       if ltb done len
       then (do
-        page-read (page_at geometry (place_of offset done))
-        read-cache (column_at geometry (place_of offset done)) (chunk_of geometry offset len done) (Sink.Buffer done)
-        read-loop fuel offset len (done + chunk_of geometry offset len done))
+        page-read page
+        read-cache column chunk (Sink.Buffer done)
+        read-loop fuel offset len (done + chunk))
       else ret tt
 
-  unfoldable pub reading : ℕ → ℕ → ℕ → Prog Nothing
+  unfoldable pub reading : (offset len done : ℕ) → Prog Nothing
   reading offset len done = read-loop (len - done) offset len done
 
-  unfoldable pub read : ℕ → ℕ → Prog Nothing
+  unfoldable pub read : (offset len : ℕ) → Prog Nothing
   read offset len = do
-    refuse (not (in_range geometry offset len)) FlashError.OutOfBounds
+    check-range offset len
     reading offset len 0
 
   -- fn is_bad_block
   unfoldable pub is-bad-block : ℕ → Prog Bool
   is-bad-block block = do
     check-block block
-    load-page (first_page_of geometry block)
+    load-page (block * geometry.pages_per_block)
     marker ← read-cache geometry.page_size 1 Sink.Number
     ret (not (eqb (marker % 256) 0xFF))
 
-  -- fn mark_bad_block: its loop over the filler, by fuel; a piece is never empty
-  unfoldable pub fill-loop : ℕ → ℕ → Prog Nothing
+  -- fn mark_bad_block: its loop over FF_CHUNK, by fuel, for which the bytes that are left are enough (specs/Loops.antt)
+  unfoldable pub fill-loop : (fuel column : ℕ) → Prog Nothing
   fill-loop zero column = ret tt
   fill-loop (suc fuel) column =
+      let step = min (geometry.page_size - column) FF-CHUNK-LEN in
       if ltb column geometry.page_size
       then (do
-        load-program-data column (filler_of geometry column) (Payload.Filler (filler_of geometry column))
-        fill-loop fuel (column + filler_of geometry column))
+        load-program-data column step (Payload.Filler step)
+        fill-loop fuel (column + step))
       else ret tt
 
   unfoldable pub filling : ℕ → Prog Nothing
@@ -283,7 +317,7 @@ module _ (flash : Setup) where
       write-enable
       filling 0
       load-program-data geometry.page_size 1 Payload.Marker
-      program-execute (first_page_of geometry block)
+      program-execute (block * geometry.pages_per_block)
       marked ← is-bad-block block
       refuse (not marked) FlashError.VerifyFailed
 
@@ -293,7 +327,7 @@ resolved None id = from_jedec id
 resolved (Some own) id = own
 
 abbrev pub constructed : SpiNandConfig → NandInit → Setup
-constructed config init = setup_of config (resolved config.geometry init.id) init
+constructed config init = record { config = config; geometry = resolved config.geometry init.id; init = init }
 
 unfoldable pub with-config : SpiNandConfig → Prog Setup
 with-config config = do
@@ -304,4 +338,4 @@ with-config config = do
 
 -- fn new
 abbrev pub new : Prog Setup
-new = with-config single_config
+new = with-config single

@@ -2,9 +2,12 @@
 #![tactic(auto)]
 
 ghost use Rattle.nand_runs.specs.Chip.{DeliversTheChip};
+ghost use Rattle.nand_runs.specs.Loops.{NandLoops};
+ghost use Rattle.nand_runs.specs.NothingWraps.{NothingWraps};
 ghost use Rattle.nand_runs.specs.Promises.{NandPromises};
 ghost use Rattle.nand_runs.specs.ShamDrivers.{NandShamsFail};
 ghost use Rattle.nand_runs.specs.Run.{nand_driver};
+ghost use Rattle.nand_runs.specs.SameWords.{SameWords};
 ghost use Rattle.nand_runs.specs.Shams.{ShamsRuledOut};
 
 /// Over every run of the NAND driver: who is refused and why, what happens to lent bytes, that every action, result and delivered
@@ -29,4 +32,19 @@ pub fn nand_shams_fail()
 /// What is asked of a read's run tells lawful runs from sham ones, and no driver that gives out the actions of a sham run keeps it.
 pub fn nand_shams_ruled_out()
     ensures { ShamsRuledOut }
+{}
+
+/// The transcribed loops of `read` and of `mark_bad_block`'s filler are those of the Rust, turn by turn.
+pub fn nand_loops_turn_as_the_rusts()
+    ensures { NandLoops }
+{}
+
+/// Inside the bounds the driver's words for sums, pieces, tests, transfers, geometries and settings come to those of the Rust.
+pub fn nand_words_say_the_rusts()
+    ensures { SameWords }
+{}
+
+/// Inside the bounds no operation of the Rust wraps, goes below 0, divides by 0 or slices past an end.
+pub fn nand_never_wraps()
+    ensures { NothingWraps }
 {}
