@@ -13,6 +13,7 @@ pub mod Views
 pub mod Refusals
 pub mod LeftBehind
 pub mod SameAsRust
+pub mod Built
 pub mod Begins
 pub mod EndsAsRust
 pub mod Delivered

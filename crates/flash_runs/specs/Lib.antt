@@ -4,6 +4,7 @@ pub mod Begins
 pub mod LentBytes
 pub mod Refusals
 pub mod SameAsRust
+pub mod Built
 pub mod Shams
 pub mod Driver
 pub mod System

@@ -40,6 +40,7 @@ use Rattle.nand_runs.proofs.Places.{parts, Valid}
 use Rattle.nand_runs.proofs.Keeps.{Built}
 use Rattle.nand_runs.proofs.Meaning.{DONE, meaning}
 use Rattle.nand_runs.proofs.Agrees.{large}
+use Rattle.nand_runs.proofs.Built.{nand-built}
 use Rattle.nand_runs.proofs.Known.{supplies, known}
 use Rattle.nand_runs.proofs.Is.{nand-is}
 
@@ -205,4 +206,5 @@ as-rust = record {
   rust_leaves_none = λ flash config b d big given buffer rs. rust-none given flash.setup (Call.WithConfig config) b d big rs buffer;
   leaves_none = refused-none;
   sessions = sessions;
+  fresh_sessions = λ turns asked. sessions nand_driver.fresh turns (nand-built.steady turns asked);
 }

@@ -150,7 +150,7 @@ module _ where
   any-asked Asked.DisableQuad = tt
   any-asked Asked.QuadDisabled = tt
 
-  all-ok : (phase : Phase) → OkPhase Any phase
+  pub all-ok : (phase : Phase) → OkPhase Any phase
   all-ok Phase.Raised = tt
   all-ok (Phase.Asking asked) = any-asked asked
   all-ok (Phase.Enabling why EnableStep.Command) = any-enable why
@@ -412,7 +412,7 @@ module _ {Ok : Bool → Type 0} {In : Setup → Type 0} {R : Then → Type 0} (p
 -- ---- a geometry within the bounds stays so
 
 -- the geometry of a known part is
-resolved-inside : (setting : Option NandGeometry) (g : NandGeometry) (id : NandJedecId) → in_bounds g ≡ true → in_bounds (geometry_at setting g id) ≡ true
+pub resolved-inside : (setting : Option NandGeometry) (g : NandGeometry) (id : NandJedecId) → in_bounds g ≡ true → in_bounds (geometry_at setting g id) ≡ true
 resolved-inside None g id h = (geometries-hold.known id).bounds
 resolved-inside (Some own) g id h = h
 

@@ -13,6 +13,7 @@ pub mod Opens
 pub mod Is
 pub mod Lent
 pub mod Known
+pub mod Built
 pub mod AsRust
 pub mod Waits
 pub mod ReadLoop

@@ -10,6 +10,7 @@ use Rattle.spi_flash.specs.Prog.{Prog, fail, ◌>>=◌, ◌>>◌, transfer}
 use Rattle.spi_flash.specs.Run.{Event, Answer}
 use Rattle.spi_flash.specs.Seen.{Did, told, gives_of, replies_of, accepted, Undisturbed}
 use Rattle.spi_flash.specs.declared.error.FlashError.{FlashError}
+use Rattle.flash_runs.specs.Built.{AllAsked}
 use Rattle.flash_runs.specs.Driver.{Driver, steps_at}
 use Rattle.flash_runs.specs.SameAsRust.{left_by, Turn, Steady, Regular, accepted_at, rust_call, driver_of, EachTurn, each_turn, accepted_turn, turn_gives, rust_session}
 use Rattle.spi_nand.specs.declared.answer.Answer as Nand
@@ -94,3 +95,7 @@ pub record AsRust : Type 0 where
   pub sessions : (flash : SpiNandFlash) (turns : List (Turn Call)) → EachTurn nand_driver (λ flash x. Steady nand_driver flash x.call x.lent x.events) flash turns →
       but_large turns (each_turn nand_driver (turn_gives nand_driver) flash turns) ≡
       but_large turns (map gives_of (rust_session rust_driver (driver_of nand_driver flash) (each_turn nand_driver (accepted_turn nand_driver) flash turns)))
+  -- from a driver before any construction on, where constructions alone are given a geometry inside the bounds
+  pub fresh_sessions : (turns : List (Turn Call)) → AllAsked nand_driver turns →
+      but_large turns (each_turn nand_driver (turn_gives nand_driver) nand_driver.fresh turns) ≡
+      but_large turns (map gives_of (rust_session rust_driver none (each_turn nand_driver (accepted_turn nand_driver) nand_driver.fresh turns)))

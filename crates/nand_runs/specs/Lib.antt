@@ -2,6 +2,7 @@ pub mod Promises
 pub mod AsRust
 pub mod Chip
 pub mod Run
+pub mod Built
 pub mod RustConfig
 pub mod Rust
 pub mod Program

@@ -1,6 +1,7 @@
 //! What holds of the NAND driver over whole runs: specs/ and proofs/, and a function for each theorem.
 #![tactic(auto)]
 
+ghost use Rattle.nand_runs.specs.Built.{NandBuiltInside};
 ghost use Rattle.nand_runs.specs.Chip.{DeliversTheChip};
 ghost use Rattle.nand_runs.specs.Loops.{NandLoops};
 ghost use Rattle.nand_runs.specs.NothingWraps.{NothingWraps};
@@ -14,6 +15,13 @@ ghost use Rattle.nand_runs.specs.Shams.{ShamsRuledOut};
 /// byte is the Rust's but for one listed difference, that no call asks more delay than its bound, and what a read shows on the bus.
 pub fn nand_promises()
     ensures { NandPromises }
+{}
+
+/// A NAND driver that is built is inside the bounds and has a page of at most 4,096, whatever was asked of it before; so from a driver
+/// before any construction on, the calls give what the Rust's give, but for the listed difference, where constructions alone are given a
+/// geometry inside the bounds.
+pub fn nand_keeps_to_the_bounds()
+    ensures { NandBuiltInside }
 {}
 
 /// Whatever the chip holds: where it answers each read of its cache with what it holds at the place that the bytes on the bus asked

@@ -145,7 +145,7 @@ keeps-device None device id h = device_bounds.accepts (from_jedec id) (device_bo
 keeps-device (Some own) device id h = h
 
 module _ (s : Setup) (valid : in_bounds_of s.device ≡ true) where
-  keeps-known : (v : ℕ) → in_bounds_of (known_as s v).device ≡ true
+  pub keeps-known : (v : ℕ) → in_bounds_of (known_as s v).device ≡ true
   unfolding device_for
   keeps-known v = keeps-device s.config.device s.device (id_of v) valid
 

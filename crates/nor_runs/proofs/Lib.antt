@@ -17,6 +17,7 @@ pub mod Simulation
 pub mod Openings
 pub mod Is
 pub mod Promises
+pub mod Built
 pub mod Shams
 pub mod SeenTransfers
 pub mod Pieces

@@ -1,6 +1,7 @@
 //! What holds of the NOR driver over whole runs: specs/ and proofs/, and a function for each theorem.
 #![tactic(auto)]
 
+ghost use Rattle.nor_runs.specs.Built.{NorBuiltInside};
 ghost use Rattle.nor_runs.specs.Chip.{DeliversTheChip};
 ghost use Rattle.nor_runs.specs.Loops.{NorLoops};
 ghost use Rattle.nor_runs.specs.NothingWraps.{NothingWraps};
@@ -14,6 +15,12 @@ ghost use Rattle.nor_runs.specs.Shams.{NorShamsFail};
 /// is the Rust's, and that no call asks more delay than its bound.
 pub fn nor_promises()
     ensures { NorPromises }
+{}
+
+/// A NOR driver that is built is inside the bounds and has a page of at most 512, whatever was asked of it before; so from a driver
+/// before any construction on, the calls give what the Rust's give where constructions alone are given a device inside the bounds.
+pub fn nor_keeps_to_the_bounds()
+    ensures { NorBuiltInside }
 {}
 
 /// No sham driver keeps them: one that refuses every request, claims success with no traffic, runs for ever, gives up before it looks,

@@ -1,0 +1,43 @@
+-- From a driver before any construction on, whatever is asked of it: a driver that is built is inside the bounds, so that they are
+-- asked of constructions alone (docs/SPECIFICATION.md, "Geometry" and "Same as the Rust").
+use Rattle.std.specs.Prelude.{ℕ, ◌≤◌, true, false, ◌≡◌, List, [], ◌∷◌, map}
+use Rattle.std.proofs.Math.Option.{none}
+use Rattle.spi_flash.specs.Loan.{Lent}
+use Rattle.spi_flash.specs.Run.{Event}
+use Rattle.spi_flash.specs.Seen.{gives_of}
+use Rattle.flash_runs.specs.Driver.{Sort, constructs, tells, releases, uses, Driver, sort_at, takes_at, steps_at}
+use Rattle.flash_runs.specs.SameAsRust.{Turn, LendsData, Ready, Steady, turn_after, EachTurn, each_turn, accepted_turn, turn_gives, rust_session}
+
+module _ {F C S A : Type 0} (driver : Driver F C S A) where
+  -- the state behind calls and their events
+  unfoldable pub after_turns : F → List (Turn C) → F
+  after_turns flash [] = flash
+  after_turns flash (x ∷ xs) = after_turns (turn_after driver flash x) xs
+
+  -- what a construction is given is inside the bounds
+  abbrev pub GivenInside : Sort S → Type 0
+  GivenInside (constructs own) = driver.in_bounds own ≡ true
+  GivenInside tells = Unit {0}
+  GivenInside releases = Unit {0}
+  GivenInside (uses takes) = Unit {0}
+
+  -- a call that the Rust could be asked for, with the same data lent throughout, where it takes data; the bounds only of a construction
+  pub record Asked (flash : F) (call : C) (l : Lent) (es : List (Event C)) : Type 0 where
+    pub idle : driver.system.running flash ≡ false
+    pub ready : Ready driver (sort_at driver call l) flash l
+    pub inside : GivenInside (sort_at driver call l)
+    pub same_data : LendsData (takes_at driver call l) l.given (steps_at driver flash call l es)
+
+  abbrev pub AllAsked : List (Turn C) → Type 0
+  AllAsked turns = EachTurn driver (λ flash x. Asked flash x.call x.lent x.events) driver.fresh turns
+
+  -- of a driver whose page is at most so long once it is built
+  pub record BuiltInside (page_of : S → ℕ) (most : ℕ) : Type 0 where
+    -- whatever calls came before, with whatever lent and whatever events, refused ones among them
+    pub inside : (turns : List (Turn C)) → driver.built (after_turns driver.fresh turns) ≡ true → driver.in_bounds (driver.setup (after_turns driver.fresh turns)) ≡ true
+    pub page : (turns : List (Turn C)) → driver.built (after_turns driver.fresh turns) ≡ true → page_of (driver.setup (after_turns driver.fresh turns)) ≤ most
+    -- so that what is said of calls on geometries inside the bounds holds where constructions are given such
+    pub steady : (turns : List (Turn C)) → AllAsked turns → EachTurn driver (λ flash x. Steady driver flash x.call x.lent x.events) driver.fresh turns
+    -- and so the calls give what the Rust's give, from the first construction on
+    pub sessions : (turns : List (Turn C)) → AllAsked turns →
+        each_turn driver (turn_gives driver) driver.fresh turns ≡ map gives_of (rust_session driver none (each_turn driver (accepted_turn driver) driver.fresh turns))

@@ -1,0 +1,5 @@
+use Rattle.nor_runs.proofs.Built.{nor-built}
+use Rattle.nor_runs.proofs.nor_keeps_to_the_bounds.Goals as goal
+
+pub returns : goal.returns
+returns c = nor-built
