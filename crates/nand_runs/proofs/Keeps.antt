@@ -44,7 +44,8 @@ use Rattle.spi_nand.specs.declared.setup.Setup.{Setup}
 use Rattle.nand_steps.specs.Register.{id_of, geometry_at, geometry_for, identified_then, configured_then, configure_then, check_configuration, unprotected_then, unprotect_then, disable_quad, quad_disabled, written_then}
 use Rattle.nand_steps.specs.Cache.{read_cache_then, piece_then, compared_then, load_program_then, payload_length}
 use Rattle.spi_nand.specs.Verdict.{asks_verdict}
-use Rattle.nand_steps.specs.Page.{uncorrectable, page_read_then, is_bad_then, accepted_then, loaded_then, judged_then, program_then, after_program, programmed_then, read_page_then, write_page_then}
+use Rattle.spi_nand.specs.Verdict.{uncorrectable}
+use Rattle.nand_steps.specs.Page.{page_read_then, is_bad_then, accepted_then, loaded_then, judged_then, program_then, after_program, programmed_then, read_page_then, write_page_then}
 use Rattle.nand_steps.specs.Read.{read_from, read_then}
 use Rattle.nand_steps.specs.Block.{is_bad, erase_then, after_erase, erased_then, marker_then, fill_from}
 use Rattle.nand_steps.specs.Then.{Then}

@@ -1,14 +1,13 @@
 -- Pages (nand/driver.rs: page_read, is_bad_block, program_execute, read_page, write_page), cut where they use the bus.
-use Rattle.std.specs.Prelude.{ℕ, Bool, true, false, ltb, eqb, Err}
+use Rattle.std.specs.Prelude.{ℕ, ltb, eqb, Err}
 use Rattle.qspi.specs.Choice.{pick}
 use Rattle.qspi.specs.declared.transfer.Sink.{Sink}
 use Rattle.spi_flash.specs.declared.error.FlashError.{FlashError}
 use Rattle.spi_nand.specs.Command.{page_read_command, program_execute_command}
 use Rattle.spi_nand.specs.Config.{page_count_of, first_page_of}
 use Rattle.spi_nand.specs.Status.{program_failed_of, verdict_of}
-use Rattle.spi_nand.specs.declared.status.EccVerdict.{EccVerdict}
 use Rattle.spi_nand.specs.declared.status.Status.{Status}
-use Rattle.spi_nand.specs.Verdict.{asks_verdict}
+use Rattle.spi_nand.specs.Verdict.{asks_verdict, uncorrectable}
 use Rattle.spi_nand.specs.declared.phase.EnableFor.{EnableFor}
 use Rattle.spi_nand.specs.declared.phase.LoadFor.{LoadFor}
 use Rattle.spi_nand.specs.declared.phase.MarkerFor.{MarkerFor}
@@ -46,13 +45,6 @@ accepted_then setup (LoadFor.Read s) = piece_then setup s.offset s.len s.done
 -- "A load's verdict is that of the status read after its wait has ended"
 unfoldable pub loaded_then : Setup → LoadFor → Then
 loaded_then setup why = pick (asks_verdict why) (verdict setup (Task.Load why)) (accepted_then setup why)
-
--- "`page_read` refuses only 2"
-abbrev pub uncorrectable : EccVerdict → Bool
-uncorrectable EccVerdict.NoBitFlips = false
-uncorrectable EccVerdict.Corrected = false
-uncorrectable EccVerdict.Uncorrectable = true
-uncorrectable EccVerdict.Reserved = false
 
 -- `if self.read_status()?.ecc_verdict() == EccVerdict::Uncorrectable`
 unfoldable pub judged_then : Setup → LoadFor → Status → Then

@@ -4,7 +4,7 @@ use Rattle.qspi.specs.Choice.{pick}
 use Rattle.spi_flash.specs.declared.error.FlashError.{FlashError}
 use Rattle.spi_nand.specs.Config.{from_jedec, wanted_for}
 use Rattle.spi_nand.specs.Opcode.{REG-CONFIGURATION, REG-BLOCK-PROTECTION}
-use Rattle.spi_nand.specs.Status.{QUAD-ENABLE, configuration_byte, quad_enabled_of, with_bits, same_configuration, is_unlocked}
+use Rattle.spi_nand.specs.Status.{QUAD-ENABLE, configuration_byte, quad_enabled_of, with_bits, same_configuration, UNPROTECTED, is_unlocked}
 use Rattle.spi_nand.specs.declared.config.NandGeometry.{NandGeometry}
 use Rattle.spi_nand.specs.declared.config.NandJedecId.{NandJedecId}
 use Rattle.spi_nand.specs.declared.status.Configuration.{Configuration}
@@ -74,7 +74,7 @@ unprotected_then setup before true = ask (with_protection setup before) REG-CONF
 unfoldable pub unprotect_then : Setup → Protection → Bool → Then
 unprotect_then setup before bring_up =
     pick (is_unlocked before) (unprotected_then setup before bring_up)
-    (enable setup (EnableFor.Register REG-BLOCK-PROTECTION 0 (RegisterFor.Unprotect before bring_up)))
+    (enable setup (EnableFor.Register REG-BLOCK-PROTECTION UNPROTECTED (RegisterFor.Unprotect before bring_up)))
 
 -- ---- disable_quad
 

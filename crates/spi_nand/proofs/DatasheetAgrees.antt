@@ -1,7 +1,7 @@
 -- The driver's definitions against the datasheets'.
 use Prim.Native.Nat.{ℕ, zero, suc, ◌+◌, ◌*◌, ◌/◌, ◌%◌, ◌^◌, ◌≤◌, ◌<◌}
 use mathlib.Core.Path.{◌≡◌, refl, sym, ap, ◌∙◌}
-use mathlib.Core.Bool.{true, false, ◌&&◌, ◌||◌}
+use mathlib.Core.Bool.{Bool, true, false, not, ◌&&◌, ◌||◌}
 use Rattle.qspi.specs.Choice.{pick}
 use Rattle.std.specs.Prelude.{◌==◌, if◌then◌else◌, Option, Some, None, is_some}
 use mathlib.Core.List.{List, [], ◌∷◌, ◌++◌}
@@ -18,6 +18,8 @@ use Rattle.spi_flash.specs.Bits.{bit, is_set}
 use Rattle.spi_flash.proofs.Bits.{field, any-bit, bit_below, replaced-bit}
 use Rattle.spi_nand.specs.Opcode.{timings_of}
 use Rattle.spi_nand.specs.Status.{status_of, busy_of, write_enabled_of, erase_failed_of, program_failed_of, verdict_number, verdict_at, verdict_of, ECC-MASK, ecc_enabled_of, buffer_read_of, otp_enabled_of, quad_enabled_of, configuration_of, configuration_byte, with_bits, protection_of, block_protect_bits, is_unlocked}
+use Rattle.spi_nand.specs.Verdict.{uncorrectable}
+use Rattle.spi_nand.specs.declared.status.EccVerdict.{EccVerdict}
 use Rattle.spi_nand.specs.Config.{jedec_id_of, from_jedec, with_quad, wanted_for}
 use Rattle.spi_nand.specs.declared.config.NandQuadConfig.{NandQuadConfig}
 use Rattle.spi_nand.specs.declared.config.SpiNandConfig.{SpiNandConfig}
@@ -163,6 +165,47 @@ unfolding is_unlocked
 unlocked-agrees b =
     ap (λ (n : ℕ). eqb n 0) (protect-bits b) ∙ none-set (bit sheet.BP3 b) (bit sheet.BP2 b) (bit sheet.BP1 b) (bit sheet.BP0 b)
 
+-- a verdict by its two bits
+abbrev verdict_of_bits : Bool → Bool → EccVerdict
+verdict_of_bits false false = EccVerdict.NoBitFlips
+verdict_of_bits false true = EccVerdict.Corrected
+verdict_of_bits true false = EccVerdict.Uncorrectable
+verdict_of_bits true true = EccVerdict.Reserved
+
+by-numbers : (high low : ℕ) → high < 2 → low < 2 → verdict_at (high * 2 + low) ≡ verdict_of_bits (eqb high 1) (eqb low 1)
+by-numbers zero zero h l = refl
+by-numbers zero (suc zero) h l = refl
+by-numbers (suc zero) zero h l = refl
+by-numbers (suc zero) (suc zero) h l = refl
+by-numbers (suc (suc high)) low h l = absurd (omega arith)
+by-numbers zero (suc (suc low)) h l = absurd (omega arith)
+by-numbers (suc zero) (suc (suc low)) h l = absurd (omega arith)
+
+by-bits : (b : ℕ) → verdict_of (status_of b) ≡ verdict_of_bits (is_set sheet.ECC-1 b) (is_set sheet.ECC-0 b)
+unfolding verdict_of
+by-bits b =
+    ap verdict_at (verdict-bits b)
+    ∙ by-numbers (bit sheet.ECC-1 b) (bit sheet.ECC-0 b) (bit_below sheet.ECC-1 b) (bit_below sheet.ECC-0 b)
+
+bits-mean : (part : Part) (high low : Bool) → status_of_verdict part (verdict_of_bits high low) ≡ sheet.ecc_of_bits part high low
+bits-mean part false false = refl
+bits-mean part false true = refl
+bits-mean part true false = refl
+bits-mean w25n01gv true true = refl
+bits-mean w25n02kv true true = refl
+
+verdict-means : (part : Part) (b : ℕ) → status_of_verdict part (verdict_of (status_of b)) ≡ sheet.ecc_status part b
+verdict-means part b = ap (status_of_verdict part) (by-bits b) ∙ bits-mean part (is_set sheet.ECC-1 b) (is_set sheet.ECC-0 b)
+
+refused-second : (b : ℕ) → uncorrectable (verdict_of (status_of b)) ≡ not (sheet.data_good (sheet.ecc_status w25n02kv b))
+refused-second b = ap uncorrectable (by-bits b) ∙ cases (is_set sheet.ECC-1 b) (is_set sheet.ECC-0 b)
+  where
+    cases : (high low : Bool) → uncorrectable (verdict_of_bits high low) ≡ not (sheet.data_good (sheet.ecc_of_bits w25n02kv high low))
+    cases false false = refl
+    cases false true = refl
+    cases true false = refl
+    cases true true = refl
+
 -- bit k of the mask of ECC-E and BUF, and of that of bit 0, over what was there
 operational-bit : (k : ℕ) → k < 8 → (x : ℕ)
     → pick (is_set k 24) (bit k 24) x ≡ (if k == sheet.ECC-E || k == sheet.BUF || k == sheet.RESERVED-OR-H-DIS && false then 1 else x)
@@ -216,6 +259,7 @@ registers-agree = record {
   erase_failed = any-bit sheet.E-FAIL;
   program_failed = any-bit sheet.P-FAIL;
   verdict = verdict-agrees;
+  refused = refused-second;
   ecc_enabled = any-bit sheet.ECC-E;
   buffer_read = any-bit sheet.BUF;
   otp_enabled = any-bit sheet.OTP-E;
@@ -240,22 +284,28 @@ datasheet-agrees = record { commands = commands-agree; geometries = geometries-a
 
 -- ---- departures
 
-ecc-meaning : (part : Part) (high low : ℕ) → high < 2 → low < 2
-    → status_of_verdict part (verdict_at (high * 2 + low)) ≡ sheet.ecc_of_bits part (eqb high 1) (eqb low 1)
-ecc-meaning part zero zero h l = refl
-ecc-meaning part zero (suc zero) h l = refl
-ecc-meaning part (suc zero) zero h l = refl
-ecc-meaning w25n01gv (suc zero) (suc zero) h l = refl
-ecc-meaning w25n02kv (suc zero) (suc zero) h l = refl
-ecc-meaning part (suc (suc high)) low h l = absurd (omega arith)
-ecc-meaning part zero (suc (suc low)) h l = absurd (omega arith)
-ecc-meaning part (suc zero) (suc (suc low)) h l = absurd (omega arith)
+refused-first : (b : ℕ) → (is_set sheet.ECC-1 b && is_set sheet.ECC-0 b) ≡ false
+    → uncorrectable (verdict_of (status_of b)) ≡ not (sheet.data_good (sheet.ecc_status w25n01gv b))
+refused-first b h = ap uncorrectable (by-bits b) ∙ cases (is_set sheet.ECC-1 b) (is_set sheet.ECC-0 b) h
+  where
+    cases : (high low : Bool) → (high && low) ≡ false
+        → uncorrectable (verdict_of_bits high low) ≡ not (sheet.data_good (sheet.ecc_of_bits w25n01gv high low))
+    cases false false e = refl
+    cases false true e = refl
+    cases true false e = refl
+    cases true true e = cc
 
-verdict-means : (part : Part) (b : ℕ) → status_of_verdict part (verdict_of (status_of b)) ≡ sheet.ecc_status part b
-unfolding verdict_of
-verdict-means part b =
-    ap (λ (n : ℕ). status_of_verdict part (verdict_at n)) (verdict-bits b)
-    ∙ ecc-meaning part (bit sheet.ECC-1 b) (bit sheet.ECC-0 b) (bit_below sheet.ECC-1 b) (bit_below sheet.ECC-0 b)
+passed-first : (b : ℕ) → (is_set sheet.ECC-1 b && is_set sheet.ECC-0 b) ≡ true
+    → (uncorrectable (verdict_of (status_of b)) ≡ false) × (sheet.ecc_status w25n01gv b ≡ sheet.failed_in_several_pages)
+passed-first b h =
+    let both = cases (is_set sheet.ECC-1 b) (is_set sheet.ECC-0 b) h in
+    (ap uncorrectable (by-bits b) ∙ both.0, both.1)
+  where
+    cases : (high low : Bool) → (high && low) ≡ true
+        → (uncorrectable (verdict_of_bits high low) ≡ false) × (sheet.ecc_of_bits w25n01gv high low ≡ sheet.failed_in_several_pages)
+    cases false low e = cc
+    cases true false e = cc
+    cases true true e = (refl, refl)
 
 pub rust-departs : RustDeparts
 unfolding from_jedec jedec_id_of quad_enabled_of is_unlocked block_protect_bits
@@ -264,5 +314,7 @@ rust-departs = record {
   other_part = refl;
   quad_enabled = any-bit sheet.RESERVED-OR-H-DIS;
   quad_left_off = (refl, refl);
+  refused = refused-first;
+  passed = passed-first;
   verdict = verdict-means;
 }

@@ -206,6 +206,13 @@ ecc_of_bits w25n02kv true true = corrected
 abbrev pub ecc_status : Part → ℕ → EccStatus
 ecc_status part byte = ecc_of_bits part (is_set ECC-1 byte) (is_set ECC-0 byte)
 
+-- whether the page is as it was programmed
+abbrev pub data_good : EccStatus → Bool
+data_good clean = true
+data_good corrected = true
+data_good failed_in_one_page = false
+data_good failed_in_several_pages = false
+
 -- ---- "AC Electrical Characteristics": the longest time of each operation, in microseconds (unsure of the W25N02KV)
 
 -- tRST during an erase, tRD with ECC, tPP, tBE; tW of a register is 50 ns

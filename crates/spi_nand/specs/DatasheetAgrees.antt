@@ -1,11 +1,12 @@
 -- The driver's commands, registers and geometries are those of the datasheets, for every page, column and byte; and where they are not.
-use Rattle.std.specs.Prelude.{ℕ, ◌+◌, ◌*◌, ◌^◌, ◌≤◌, ◌<◌, ◌≡◌, true, false, ◌&&◌, ◌||◌, ◌==◌, if◌then◌else◌, is_some, ◌∷◌}
+use Rattle.std.specs.Prelude.{ℕ, ◌+◌, ◌*◌, ◌^◌, ◌≤◌, ◌<◌, ◌≡◌, true, false, not, ◌&&◌, ◌||◌, ◌==◌, if◌then◌else◌, is_some, ◌∷◌}
 use Rattle.qspi.specs.Choice.{pick}
 use Rattle.qspi.specs.Address.{big_endian, read_from}
 use Rattle.qspi.specs.Command.{command_bytes}
 use Rattle.spi_flash.specs.Bits.{bit, is_set}
 use Rattle.spi_nand.specs.Opcode.{REG-BLOCK-PROTECTION, REG-CONFIGURATION, REG-STATUS, timings_of}
-use Rattle.spi_nand.specs.Status.{status_of, busy_of, write_enabled_of, erase_failed_of, program_failed_of, verdict_number, verdict_of, configuration_of, configuration_byte, ecc_enabled_of, buffer_read_of, otp_enabled_of, quad_enabled_of, with_bits, protection_of, block_protect_bits, is_unlocked}
+use Rattle.spi_nand.specs.Status.{status_of, busy_of, write_enabled_of, erase_failed_of, program_failed_of, verdict_number, verdict_of, configuration_of, configuration_byte, ecc_enabled_of, buffer_read_of, otp_enabled_of, quad_enabled_of, with_bits, protection_of, UNPROTECTED, block_protect_bits, is_unlocked}
+use Rattle.spi_nand.specs.Verdict.{uncorrectable}
 use Rattle.spi_nand.specs.Config.{jedec_id_of, geometry_of, W25N01GV, W25N02KV, from_jedec, QUAD-W25N01GV, wanted_for}
 use Rattle.spi_nand.specs.Command.{reset_command, read_id_command, get_feature_command, set_feature_command, write_enable_command, page_read_command, read_cache_command, block_erase_command, load_program_data_command, program_execute_command, quad_read_cache_command, quad_load_program_data_command}
 use Rattle.spi_nand.specs.Datasheet as sheet
@@ -65,6 +66,8 @@ pub record RegistersAgree : Type 0 where
   pub erase_failed : (b : ℕ) → erase_failed_of (status_of b) ≡ is_set sheet.E-FAIL b
   pub program_failed : (b : ℕ) → program_failed_of (status_of b) ≡ is_set sheet.P-FAIL b
   pub verdict : (b : ℕ) → verdict_number (verdict_of (status_of b)) ≡ bit sheet.ECC-1 b * 2 + bit sheet.ECC-0 b
+  -- a W25N02KV's page is refused just where it could not be corrected
+  pub refused : (b : ℕ) → uncorrectable (verdict_of (status_of b)) ≡ not (sheet.data_good (sheet.ecc_status w25n02kv b))
   pub ecc_enabled : (b : ℕ) → ecc_enabled_of (configuration_of b) ≡ is_set sheet.ECC-E b
   pub buffer_read : (b : ℕ) → buffer_read_of (configuration_of b) ≡ is_set sheet.BUF b
   pub otp_enabled : (b : ℕ) → otp_enabled_of (configuration_of b) ≡ is_set sheet.OTP-E b
@@ -79,8 +82,8 @@ pub record RegistersAgree : Type 0 where
       → block_protect_bits (protection_of b) ≡ bit sheet.BP3 b * 8 + bit sheet.BP2 b * 4 + bit sheet.BP1 b * 2 + bit sheet.BP0 b
   pub unlocked : (b : ℕ) → is_unlocked (protection_of b) ≡ sheet.none_protected b
   -- what `unprotect` writes protects no block, and leaves quad instructions allowed
-  pub unprotected : sheet.none_protected 0x00 ≡ true
-  pub quad_allowed : sheet.quad_allowed 0x00 ≡ true
+  pub unprotected : sheet.none_protected UNPROTECTED ≡ true
+  pub quad_allowed : sheet.quad_allowed UNPROTECTED ≡ true
 
 -- no wait gives up before the parts' longest time
 pub record Limits : Type 0 where
@@ -112,4 +115,9 @@ pub record RustDeparts : Type 0 where
   pub quad_enabled : (b : ℕ) → quad_enabled_of (configuration_of b) ≡ is_set sheet.RESERVED-OR-H-DIS b
   -- a part with A0 = 02 counts as unlocked, so nothing is written there and quad instructions stay off
   pub quad_left_off : (is_unlocked (protection_of 0x02) ≡ true) × (sheet.quad_allowed 0x02 ≡ false)
+  -- of a W25N01GV so too, but for both ECC bits set, which the Rust takes for no failure
+  pub refused : (b : ℕ) → (is_set sheet.ECC-1 b && is_set sheet.ECC-0 b) ≡ false
+      → uncorrectable (verdict_of (status_of b)) ≡ not (sheet.data_good (sheet.ecc_status w25n01gv b))
+  pub passed : (b : ℕ) → (is_set sheet.ECC-1 b && is_set sheet.ECC-0 b) ≡ true
+      → (uncorrectable (verdict_of (status_of b)) ≡ false) × (sheet.ecc_status w25n01gv b ≡ sheet.failed_in_several_pages)
   pub verdict : (part : Part) (b : ℕ) → status_of_verdict part (verdict_of (status_of b)) ≡ sheet.ecc_status part b

@@ -128,6 +128,10 @@ protection_byte p = p.0
 abbrev pub BLOCK-PROTECT-MASK : ℕ
 BLOCK-PROTECT-MASK = 15 * 2 ^ 3
 
+-- what unprotect writes
+abbrev pub UNPROTECTED : ℕ
+UNPROTECTED = 0x00
+
 unfoldable pub block_protect_bits : Protection → ℕ
 block_protect_bits p = bit_and p.0 BLOCK-PROTECT-MASK / 2 ^ 3
 
