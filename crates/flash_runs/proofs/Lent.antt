@@ -26,7 +26,7 @@ use Rattle.spi_flash.proofs.Unread.{buffer_reads, keeps-buffer}
 use Rattle.flash_runs.specs.Driver.{Left, takes_buffer, Driver, takes_at, program_at, run_at, flash_after}
 use Rattle.flash_runs.specs.LentBytes.{LentBytes}
 use Rattle.flash_runs.specs.Reading.{bytes_read, ChangesRead, HoldsRead}
-use Rattle.flash_runs.specs.Scratch.{PutsOver}
+use Rattle.flash_runs.specs.Scratch.{Payloads, payloads_of, PutsOver}
 use Rattle.flash_runs.specs.Watch.{closed, StopsOnError}
 use Rattle.flash_runs.proofs.General.{Parts, Place, decide_next, general}
 use Rattle.flash_runs.proofs.Filling.{Fills, first-filling}
@@ -37,6 +37,7 @@ use Rattle.flash_runs.proofs.Begins.{begins_alike, begins_leave, delivered_first
 use Rattle.flash_runs.proofs.Breaking.{stops}
 use Rattle.flash_runs.proofs.Delivered.{counts, still-counts}
 use Rattle.flash_runs.proofs.Refusals.{refusals-keep}
+use Rattle.flash_runs.proofs.Payloads.{Pays}
 use Rattle.flash_runs.proofs.Scratch.{settled-puts, puts-over}
 use Rattle.flash_runs.proofs.Views.{true≢false, shape, Opens, Nothing-begun, view, begun-opens, no_run, opens-steps, opens-run}
 
@@ -188,14 +189,19 @@ module _ {F C S A : Type 0} {driver : Driver F C S A} (known : Known driver) (fl
 
   -- ---- the scratch
 
-  puts : PutsOver closed (run_at driver flash c l es)
+  abbrev payloads : Payloads
+  payloads = payloads_of (takes_at driver c l) (driver.stamps (driver.setup flash) c)
+
+  puts : PutsOver closed payloads (run_at driver flash c l es)
   unfolding PutsOver
   puts = ⊎_elim (λ n. rw (nothing n) tt) opened begins
     where
-      opened : Opened → PutsOver closed (run_at driver flash c l es)
+      opened : Opened → PutsOver closed payloads (run_at driver flash c l es)
       opened o =
-          let steps = settled-puts (decide_next parts) (takes_at driver c l) es (puts-over (decide_next parts) (takes_at driver c l) es) in
-          rw (opens-run known flash o es) (steps (more o.first o.at) closed l l.buffer)
+          let over = puts-over C known.Valid (decide_next parts) (takes_at driver c l) meaning supplies.simulates es in
+          let pays : Pays payloads (ask o.first (meaning o.at)) = subst (Pays payloads) o.program (supplies.pays (driver.setup flash) c len (length l.given) o.bounds) in
+          rw (opens-run known flash o es)
+          (settled-puts C known.Valid (decide_next parts) (takes_at driver c l) meaning supplies.simulates es over (more o.first o.at) closed payloads l l.buffer o.valid pays)
 
 module _ {F C S A : Type 0} {driver : Driver F C S A} (known : Known driver) where
   pub lent_bytes : LentBytes driver

@@ -2,6 +2,7 @@ pub mod General
 pub mod Filling
 pub mod Quiet
 pub mod Buffer
+pub mod Payloads
 pub mod Supplies
 pub mod Weighing
 pub mod Looking

@@ -1,8 +1,9 @@
--- What is put into the scratch, over every run of the machine: the bytes that a step gives out, at their places.
-use Rattle.std.specs.Prelude.{Option, Some, None, Ok}
+-- What is put into the scratch, over every run of the machine: the bytes that a step gives out, at their places, and behind commands what
+-- the program has to give out.
+use Rattle.std.specs.Prelude.{Option, Some, None, Ok, Err}
 use Prim.Native.Nat.{ℕ, ◌≤◌}
 use mathlib.Core.Bool.{true}
-use mathlib.Core.Path.{◌≡◌, refl}
+use mathlib.Core.Path.{◌≡◌, refl, sym, subst}
 use mathlib.Core.List.{List, [], ◌∷◌}
 use lib.ListN.{length}
 use lib.Seq.{length-sets}
@@ -13,7 +14,7 @@ use Rattle.qspi.specs.Command as Command
 use Rattle.qspi.specs.Command.{command_bytes, scratch_least}
 use Rattle.qspi.proofs.Cases.{by_cases}
 use Rattle.qspi.proofs.Filler.{filler-most}
-use Rattle.qspi.specs.Frame.{Outcome, first_of, action_of, next_stage, value_of, sink_of, moved_on, advanced_at, advanced_of, taken_in, gave, exchange_of, with_payload, scratch_at, given_scratch}
+use Rattle.qspi.specs.Frame.{Outcome, first_of, action_of, next_stage, value_of, sink_of, frame_at, moved_on, advanced_at, advanced_of, taken_in, gave, exchange_of, with_payload, scratch_at, given_scratch}
 use Rattle.qspi.specs.ShownBytes.{payload_bytes, start_shown, shown_at}
 use Rattle.qspi.proofs.Sent.{shown-bytes}
 use Rattle.qspi.specs.declared.bus.Reply.{Reply}
@@ -27,10 +28,13 @@ use Rattle.qspi.specs.declared.frame.Stage.{Stage}
 use Rattle.spi_flash.specs.declared.loan.Takes.{Takes}
 use Rattle.spi_flash.specs.Loan.{Lent, ready_for}
 use Rattle.spi_flash.specs.Run.{Event, reply, call, Moved, goes_on}
-use Rattle.spi_flash.specs.Machine.{Decision, more, well, bad, Config, out, rest, lent_as, settle, moved, machine}
+use Rattle.spi_flash.specs.Machine.{Decision, more, well, bad, Config, out, rest, lent_as, settle, moved, machine, tree, Onward, Simulates}
+use Rattle.spi_flash.specs.Prog.{Prog, ask}
+use Rattle.spi_flash.proofs.OnBus.{false≢true}
 use Rattle.spi_flash.proofs.Performs.{first-shown, long-scratch}
 use Rattle.flash_runs.specs.Watch.{BusFrame, selected, commanded, frame_after}
-use Rattle.flash_runs.specs.Scratch.{with_command, PutsPayload, uncopied, filler, marker, Puts, frame_then, StepPuts, PutsOver}
+use Rattle.flash_runs.specs.Scratch.{with_command, filler, marker, Payloads, callers, stamps, next_payloads, PutsPayload, Puts, frame_then, payloads_after, payloads_then, StepPuts, PutsOver}
+use Rattle.flash_runs.proofs.Payloads.{PaysBy, Pays}
 
 -- ---- one action
 
@@ -41,128 +45,177 @@ puts-command : (c : Declared.Command) (s : List ℕ) → Long s → Command.with
 unfolding Command.with_command
 puts-command c s h = rw (le-leb scratch_least (length s) h)
 
-puts-payload : (p : Payload) (given s : List ℕ) → Long s → PutsPayload (payload_bytes p given) given s (with_payload p s)
-unfolding with_filler with_marker
-puts-payload (Payload.Data from len) given s h = uncopied from len refl refl
-puts-payload (Payload.Filler n) given s h = filler (filler_length n) (filler-most n) refl (rw (le-leb scratch_least (length s) h))
-puts-payload Payload.Marker given s h = marker refl (rw (le-leb scratch_least (length s) h))
+module _ {A : Type 0} (k : ℕ → Prog A) where
+  -- what is left to give out behind a transfer
+  abbrev Later : Payloads → Type 0
+  Later p = (v : ℕ) → Pays p (k v)
 
--- the frame on the bus while an action is out, as far as a write behind it looks at it
-abbrev Behind : Declared.Command → Body → BusFrame → Type 0
-Behind c Body.None frame = Unit {0}
-Behind c (Body.Read n sink) frame = Unit {0}
-Behind c (Body.Write payload) frame = frame ≡ commanded (command_bytes c)
-Behind c (Body.QuadRead tclqv margin n sink) frame = Unit {0}
-Behind c (Body.QuadWrite payload) frame = Unit {0}
+  abbrev PaysOn : Payloads → Outcome → Type 0
+  PaysOn p (Ok v) = Later p
+  PaysOn p (Err error) = Unit {0}
 
-abbrev FramedAt : Stage → Transfer → BusFrame → Type 0
-FramedAt Stage.Start Transfer.Raise frame = Unit {0}
-FramedAt Stage.Start (Transfer.Pause us) frame = Unit {0}
-FramedAt Stage.Start (Transfer.Framed c body) frame = frame ≡ selected
-FramedAt Stage.Command Transfer.Raise frame = Unit {0}
-FramedAt Stage.Command (Transfer.Pause us) frame = Unit {0}
-FramedAt Stage.Command (Transfer.Framed c body) frame = Behind c body frame
-FramedAt Stage.Payload t frame = Unit {0}
-FramedAt Stage.High t frame = Unit {0}
+  pays-on : (p : Payloads) (o : Outcome) → Later p → PaysOn p o
+  pays-on p (Ok v) h = h
+  pays-on p (Err error) h = tt
 
-first-framed : (t : Transfer) (frame : BusFrame) → FramedAt Stage.Start t (frame_after (start_shown t) frame)
-first-framed Transfer.Raise frame = tt
-first-framed (Transfer.Pause us) frame = tt
-first-framed (Transfer.Framed c body) frame = refl
+  -- the next payload is put at its place
+  pays-payload : (p : Payloads) (payload : Payload) (given s : List ℕ) → Long s → PaysBy p payload Later →
+      PutsPayload p (payload_bytes payload given) given s (with_payload payload s) × Later (next_payloads p)
+  unfolding with_filler with_marker
+  pays-payload callers (Payload.Data from len) given s long h = (record { from = from; len = len; part = refl; kept = refl }, h)
+  pays-payload callers (Payload.Filler n) given s long h = absurd h
+  pays-payload callers Payload.Marker given s long h = absurd h
+  pays-payload (stamps []) payload given s long h = absurd h
+  pays-payload (stamps (filler n ∷ xs)) (Payload.Data from len) given s long h = absurd h
+  pays-payload (stamps (filler n ∷ xs)) (Payload.Filler m) given s long h =
+      rw (sym h.0) ((filler-most m, refl, rw (le-leb scratch_least (length s) long)), h.1)
+  pays-payload (stamps (filler n ∷ xs)) Payload.Marker given s long h = absurd h
+  pays-payload (stamps (marker ∷ xs)) (Payload.Data from len) given s long h = absurd h
+  pays-payload (stamps (marker ∷ xs)) (Payload.Filler m) given s long h = absurd h
+  pays-payload (stamps (marker ∷ xs)) Payload.Marker given s long h = ((refl, rw (le-leb scratch_least (length s) long)), h)
+
+  -- ---- the frame on the bus while an action is out
+
+  -- a command of its own is behind no quad call
+  abbrev CommandedAt : Declared.Command → Body → BusFrame → Type 0
+  CommandedAt c (Body.QuadRead tclqv margin n sink) frame = ⊥
+  CommandedAt c (Body.QuadWrite payload) frame = ⊥
+  CommandedAt c _ frame = frame ≡ commanded (command_bytes c)
+
+  abbrev FramedAt : Stage → Transfer → BusFrame → Type 0
+  FramedAt Stage.Start (Transfer.Framed c body) frame = frame ≡ selected
+  FramedAt Stage.Command (Transfer.Framed c body) frame = CommandedAt c body frame
+  FramedAt _ t frame = Unit {0}
+
+  -- and what is left to give out
+  abbrev PaysAt : Payloads → Stage → Transfer → Outcome → Type 0
+  PaysAt p Stage.Start t o = Pays p (ask t k)
+  PaysAt p Stage.Command t o = Pays p (ask t k)
+  PaysAt p Stage.Payload t o = Later p
+  PaysAt p Stage.High t o = PaysOn p o
+
+  pub record Stands (frame : BusFrame) (p : Payloads) (stage : Stage) (t : Transfer) (o : Outcome) : Type 0 where
+    pub framed : FramedAt stage t frame
+    pub pays : PaysAt p stage t o
+
+  pub first-stands : (t : Transfer) (frame : BusFrame) (p : Payloads) (o : Outcome) → Pays p (ask t k) →
+      Stands (frame_after (start_shown t) frame) (payloads_after (start_shown t) frame p) Stage.Start t o
+  first-stands Transfer.Raise frame p o h = record { framed = tt; pays = h }
+  first-stands (Transfer.Pause us) frame p o h = record { framed = tt; pays = h }
+  first-stands (Transfer.Framed c body) frame p o h = record { framed = refl; pays = h }
+
+  -- ---- one reply
+
+  module _ (given s : List ℕ) (long : Long s) (frame : BusFrame) (p : Payloads) where
+    -- the action of a stage puts its bytes, and what is behind it stands right
+    abbrev PutsAt : Stage → Transfer → Outcome → Type 0
+    PutsAt stage t o =
+        let shown = shown_at stage t given in
+        Puts shown frame p given s (scratch_at stage t s) × Stands (frame_after shown frame) (payloads_after shown frame p) stage t o
+
+    -- wherever a reply takes it
+    abbrev PutsBy : Advanced → Type 0
+    PutsBy (Advanced.More g) = PutsAt g.stage g.transfer g.outcome
+    PutsBy (Advanced.Over o) = PaysOn p o
+
+    raised : (t : Transfer) (o : Outcome) → PaysOn p o → PutsAt Stage.High t o
+    raised t o h = (refl, record { framed = tt; pays = h })
+
+    after-start : (t : Transfer) (o : Outcome) → FramedAt Stage.Start t frame → Pays p (ask t k) → PutsBy (moved_on t (next_stage t Stage.Start) o)
+    after-start Transfer.Raise o f h = pays-on p o h
+    after-start (Transfer.Pause us) o f h = pays-on p o h
+    after-start (Transfer.Framed c Body.None) o f h = rw f (puts-command c s long, record { framed = refl; pays = h })
+    after-start (Transfer.Framed c (Body.Read n sink)) o f h = rw f (puts-command c s long, record { framed = refl; pays = h })
+    after-start (Transfer.Framed c (Body.Write payload)) o f h = rw f (puts-command c s long, record { framed = refl; pays = h })
+    after-start (Transfer.Framed c (Body.QuadRead tclqv margin n sink)) o f h = rw f (puts-command c s long, record { framed = tt; pays = h })
+    after-start (Transfer.Framed c (Body.QuadWrite payload)) o f h =
+        let put = pays-payload p payload given (with_command (command_bytes c) s) (rw (length-sets s 0 (command_bytes c)) long) h in
+        rw (f, puts-command c s long) (put.0, record { framed = tt; pays = put.1 })
+
+    after-command : (t : Transfer) (o : Outcome) → FramedAt Stage.Command t frame → Pays p (ask t k) → PutsBy (moved_on t (next_stage t Stage.Command) o)
+    after-command Transfer.Raise o f h = raised Transfer.Raise o (pays-on p o h)
+    after-command (Transfer.Pause us) o f h = raised (Transfer.Pause us) o (pays-on p o h)
+    after-command (Transfer.Framed c Body.None) o f h = raised (Transfer.Framed c Body.None) o (pays-on p o h)
+    after-command (Transfer.Framed c (Body.Read n sink)) o f h = rw f (refl, record { framed = tt; pays = h })
+    after-command (Transfer.Framed c (Body.Write payload)) o f h =
+        let put = pays-payload p payload given s long h in
+        rw f (put.0, record { framed = tt; pays = put.1 })
+    after-command (Transfer.Framed c (Body.QuadRead tclqv margin n sink)) o f h = absurd f
+    after-command (Transfer.Framed c (Body.QuadWrite payload)) o f h = absurd f
+
+    puts-by : (stage : Stage) (t : Transfer) (o : Outcome) (r : Reply) (bytes : List ℕ) → Stands frame p stage t o → fits_of (action_of (frame_at t stage o)) r (length bytes) ≡ true →
+        PutsBy (advanced_at (frame_at t stage o) r bytes given)
+    unfolding fits_of action_of
+    puts-by stage t o (Reply.Error code) bytes h fits = raised t _ tt
+    puts-by Stage.Start t o Reply.Done bytes h fits = after-start t o h.framed h.pays
+    puts-by Stage.Start t o Reply.Data bytes h fits = after-start t _ h.framed h.pays
+    puts-by Stage.Command t o Reply.Done bytes h fits = after-command t o h.framed h.pays
+    puts-by Stage.Command t o Reply.Data bytes h fits = after-command t _ h.framed h.pays
+    puts-by Stage.Payload t o Reply.Done bytes h fits = raised t o (pays-on p o h.pays)
+    puts-by Stage.Payload t o Reply.Data bytes h fits = raised t _ h.pays
+    puts-by Stage.High t o Reply.Done bytes h fits = h.pays
+    puts-by Stage.High t o Reply.Data bytes h fits = absurd (false≢true fits)
 
 -- the first action of a transfer is no write
-first-puts : (t : Transfer) (frame : BusFrame) (given scratch : List ℕ) → Puts (start_shown t) frame given scratch scratch
-first-puts Transfer.Raise frame given scratch = refl
-first-puts (Transfer.Pause us) frame given scratch = refl
-first-puts (Transfer.Framed c body) frame given scratch = refl
-
-module _ (given s : List ℕ) (long : Long s) where
-  -- the action of a stage puts its bytes, and the frame is right for what is behind it
-  abbrev PutsAt : Stage → Transfer → BusFrame → Type 0
-  PutsAt stage t frame = Puts (shown_at stage t given) frame given s (scratch_at stage t s) × FramedAt stage t (frame_after (shown_at stage t given) frame)
-
-  abbrev PutsNext : Transfer → Option Stage → BusFrame → Type 0
-  PutsNext t (Some stage) frame = PutsAt stage t frame
-  PutsNext t None frame = Unit {0}
-
-  puts-next : (t : Transfer) (stage : Stage) (frame : BusFrame) → FramedAt stage t frame → PutsNext t (next_stage t stage) frame
-  puts-next Transfer.Raise Stage.Start frame h = tt
-  puts-next (Transfer.Pause us) Stage.Start frame h = tt
-  puts-next (Transfer.Framed c Body.None) Stage.Start frame h = rw h (puts-command c s long, tt)
-  puts-next (Transfer.Framed c (Body.Read n sink)) Stage.Start frame h = rw h (puts-command c s long, tt)
-  puts-next (Transfer.Framed c (Body.Write p)) Stage.Start frame h = rw h (puts-command c s long, refl)
-  puts-next (Transfer.Framed c (Body.QuadRead tclqv margin n sink)) Stage.Start frame h = (puts-command c s long, tt)
-  puts-next (Transfer.Framed c (Body.QuadWrite p)) Stage.Start frame h =
-      (rw (puts-command c s long) (puts-payload p given (with_command (command_bytes c) s) (rw (length-sets s 0 (command_bytes c)) long)), tt)
-  puts-next Transfer.Raise Stage.Command frame h = (refl, tt)
-  puts-next (Transfer.Pause us) Stage.Command frame h = (refl, tt)
-  puts-next (Transfer.Framed c Body.None) Stage.Command frame h = (refl, tt)
-  puts-next (Transfer.Framed c (Body.Read n sink)) Stage.Command frame h = (refl, tt)
-  puts-next (Transfer.Framed c (Body.Write p)) Stage.Command frame h = rw h (puts-payload p given s long, tt)
-  puts-next (Transfer.Framed c (Body.QuadRead tclqv margin n sink)) Stage.Command frame h = (refl, tt)
-  puts-next (Transfer.Framed c (Body.QuadWrite p)) Stage.Command frame h = (refl, tt)
-  puts-next t Stage.Payload frame h = (refl, tt)
-  puts-next t Stage.High frame h = tt
-
-  -- wherever a reply takes it
-  abbrev PutsBy : Advanced → BusFrame → Type 0
-  PutsBy (Advanced.More g) frame = PutsAt g.stage g.transfer frame
-  PutsBy (Advanced.Over o) frame = Unit {0}
-
-  moves : (t : Transfer) (x : Option Stage) (o : Outcome) (frame : BusFrame) → PutsNext t x frame → PutsBy (moved_on t x o) frame
-  moves t (Some stage) o frame h = h
-  moves t None o frame h = tt
-
-  puts-by : (f : Frame) (r : Reply) (bytes : List ℕ) (frame : BusFrame) → FramedAt f.stage f.transfer frame → PutsBy (advanced_at f r bytes given) frame
-  puts-by f Reply.Done bytes frame h =
-      moves f.transfer (next_stage f.transfer f.stage) f.outcome frame (puts-next f.transfer f.stage frame h)
-  puts-by f Reply.Data bytes frame h =
-      moves f.transfer (next_stage f.transfer f.stage) (Ok (value_of (sink_of f.transfer) bytes given)) frame
-      (puts-next f.transfer f.stage frame h)
-  puts-by f (Reply.Error code) bytes frame h = (refl, tt)
+first-puts : (t : Transfer) (frame : BusFrame) (p : Payloads) (given scratch : List ℕ) → Puts (start_shown t) frame p given scratch scratch
+first-puts Transfer.Raise frame p given scratch = refl
+first-puts (Transfer.Pause us) frame p given scratch = refl
+first-puts (Transfer.Framed c body) frame p given scratch = refl
 
 -- ---- every run
 
-module _ {S A C : Type 0} (next : S → Outcome → Decision S A) (k : Takes) where
+module _ (C : Type 0) {S A : Type 0} (Valid : S → Type 0) (next : S → Outcome → Decision S A) (k : Takes) (meaning : S → ℕ → Prog A) (sim : Simulates Valid next meaning) where
   -- what is said of a step and of those behind it
-  abbrev PutsFrom : List (Event C) → BusFrame → Lent → Moved (Config S) A → Type 0
-  PutsFrom es frame l m = StepPuts m.given frame l m.left × PutsOver (frame_then m.given frame) (goes_on (machine next C) m.flash es)
+  abbrev PutsFrom : List (Event C) → BusFrame → Payloads → Lent → Moved (Config S) A → Type 0
+  PutsFrom es frame p l m = StepPuts m.given frame p l m.left × PutsOver (frame_then m.given frame) (payloads_then m.given frame p) (goes_on (machine next C) m.flash es)
 
   abbrev Putting : List (Event C) → Type 0
-  Putting es = (s : S) (f : Frame) (frame : BusFrame) → FramedAt f.stage f.transfer frame → PutsOver frame (goes_on (machine next C) (out k s f) es)
+  Putting es = (s : S) (t : Transfer) (stage : Stage) (o : Outcome) (frame : BusFrame) (p : Payloads) → Valid s → Stands (meaning s) frame p stage t o →
+      PutsOver frame p (goes_on (machine next C) (out k s (frame_at t stage o)) es)
 
-  rest-puts : (es : List (Event C)) (frame : BusFrame) → PutsOver frame (goes_on (machine next C) rest es)
+  rest-puts : (es : List (Event C)) (frame : BusFrame) (p : Payloads) → PutsOver frame p (goes_on (machine next C) rest es)
   unfolding goes_on PutsOver
-  rest-puts [] frame = tt
-  rest-puts (call c l ∷ es) frame = tt
-  rest-puts (reply r bytes l ∷ es) frame = (record { scratch = refl; callers = refl }, rest-puts es frame)
+  rest-puts [] frame p = tt
+  rest-puts (call c l ∷ es) frame p = tt
+  rest-puts (reply r bytes l ∷ es) frame p = (record { scratch = refl; callers = refl }, rest-puts es frame p)
 
-  pub settled-puts : (es : List (Event C)) → Putting es → (d : Decision S A) (frame : BusFrame) (l : Lent) (buffer : List ℕ) → PutsFrom es frame l (settle k d (lent_as l.scratch buffer l))
+  pub settled-puts : (es : List (Event C)) → Putting es → (d : Decision S A) (frame : BusFrame) (p : Payloads) (l : Lent) (buffer : List ℕ) → Onward Valid d → Pays p (tree meaning d) →
+      PutsFrom es frame p l (settle k d (lent_as l.scratch buffer l))
   unfolding first_of
-  settled-puts es ih (more t s) frame l buffer =
+  settled-puts es ih (more t s) frame p l buffer w h =
       rw (first-shown t l.scratch l.given)
-      (record { scratch = first-puts t frame l.given l.scratch; callers = refl }, ih s (first_of t) (frame_after (start_shown t) frame) (first-framed t frame))
-  settled-puts es ih (well a) frame l buffer = (record { scratch = refl; callers = refl }, rest-puts es frame)
-  settled-puts es ih (bad e) frame l buffer = (record { scratch = refl; callers = refl }, rest-puts es frame)
+      (record { scratch = first-puts t frame p l.given l.scratch; callers = refl }, ih s t Stage.Start (Ok 0) _ _ w (first-stands (meaning s) t frame p (Ok 0) h))
+  settled-puts es ih (well a) frame p l buffer w h = (record { scratch = refl; callers = refl }, rest-puts es frame p)
+  settled-puts es ih (bad e) frame p l buffer w h = (record { scratch = refl; callers = refl }, rest-puts es frame p)
 
-  module _ (es : List (Event C)) (ih : Putting es) (s : S) (f : Frame) (frame : BusFrame) (r : Reply) (bytes : List ℕ) (l : Lent) (ready : ready_for k l ≡ true) where
+  module _ (es : List (Event C)) (ih : Putting es) (s : S) (w : Valid s) (f : Frame) (frame : BusFrame) (p : Payloads) (r : Reply) (bytes : List ℕ) (l : Lent) (ready : ready_for k l ≡ true) where
     abbrev delivered : List ℕ
     delivered = taken_in f r bytes l.buffer
 
-    fitting-puts : (x : Advanced) → PutsBy l.given l.scratch (long-scratch k l ready) x frame →
-        PutsFrom es frame l (moved next k s f (gave x l.scratch delivered).exchanged l (gave x l.scratch delivered).scratch (gave x l.scratch delivered).buffer)
+    abbrev long : Long l.scratch
+    long = long-scratch k l ready
+
+    goes : (o : Outcome) → PaysOn (meaning s) p o → Onward Valid (next s o) × Pays p (tree meaning (next s o))
+    goes (Ok v) h = (sim.keeps s v w, subst (Pays p) (sim.on_value s v w) (h v))
+    goes (Err error) h = rw (sim.on_failure s error) (tt, tt)
+
+    fitting-puts : (x : Advanced) → PutsBy (meaning s) l.given l.scratch long frame p x →
+        PutsFrom es frame p l (moved next k s f (gave x l.scratch delivered).exchanged l (gave x l.scratch delivered).scratch (gave x l.scratch delivered).buffer)
     unfolding given_scratch
     fitting-puts (Advanced.More g) h =
-        rw (shown-bytes.shows g l.scratch l.given (long-scratch k l ready)) (record { scratch = h.0; callers = refl }, ih s g _ h.1)
-    fitting-puts (Advanced.Over o) h = settled-puts es ih (next s o) frame l delivered
+        rw (shown-bytes.shows g l.scratch l.given long) (record { scratch = h.0; callers = refl }, ih s g.transfer g.stage g.outcome _ _ w h.1)
+    fitting-puts (Advanced.Over o) h = settled-puts es ih (next s o) frame p l delivered (goes o h).0 (goes o h).1
 
   pub puts-over : (es : List (Event C)) → Putting es
   unfolding goes_on PutsOver exchange_of advanced_of
-  puts-over [] s f frame h = tt
-  puts-over (call c l ∷ es) s f frame h = (record { scratch = refl; callers = refl }, puts-over es s f frame h)
-  puts-over (reply r bytes l ∷ es) s f frame h =
+  puts-over [] s t stage o frame p w h = tt
+  puts-over (call c l ∷ es) s t stage o frame p w h = (record { scratch = refl; callers = refl }, puts-over es s t stage o frame p w h)
+  puts-over (reply r bytes l ∷ es) s t stage o frame p w h =
+      let f = frame_at t stage o in
       by_cases (ready_for k l)
       (λ ready. by_cases (fits_of (action_of f) r (length bytes))
-      (λ fits. rw (ready, fits) (fitting-puts es (puts-over es) s f frame r bytes l ready (advanced_of f r bytes l.given) (puts-by l.given l.scratch (long-scratch k l ready) f r bytes frame h)))
-      (λ fits. rw (ready, fits) (record { scratch = refl; callers = refl }, puts-over es s f frame h)))
-      (λ ready. rw ready (record { scratch = refl; callers = refl }, puts-over es s f frame h))
+      (λ fits. rw (ready, fits)
+      (fitting-puts es (puts-over es) s w f frame p r bytes l ready (advanced_of f r bytes l.given)
+      (puts-by (meaning s) l.given l.scratch (long-scratch k l ready) frame p stage t o r bytes h fits)))
+      (λ fits. rw (ready, fits) (record { scratch = refl; callers = refl }, puts-over es s t stage o frame p w h)))
+      (λ ready. rw ready (record { scratch = refl; callers = refl }, puts-over es s t stage o frame p w h))

@@ -21,10 +21,12 @@ use Rattle.spi_flash.proofs.Unread.{buffer_reads}
 use Rattle.spi_flash.proofs.Dataless.{data_uses}
 use Rattle.flash_runs.specs.Begins.{SameTaken}
 use Rattle.flash_runs.specs.Driver.{Left, leaving, Sort, constructs, tells, releases, uses, takes_of, works_on, Driver, takes_at}
+use Rattle.flash_runs.specs.Scratch.{payloads_of}
 pub use Rattle.flash_runs.specs.Shams.{Asks}
 use Rattle.flash_runs.proofs.General as General
 use Rattle.flash_runs.proofs.General.{Then, Opening, constructing, telling, releasing, working, Parts, Running, is_busy, Flash, flash_of, Place, place, decide, decide_next, general}
 use Rattle.flash_runs.proofs.Filling.{Fills}
+use Rattle.flash_runs.proofs.Payloads.{Pays}
 
 -- ---- the driver is the general one
 
@@ -144,6 +146,7 @@ module _ {F C S P A : Type 0} (driver : Driver F C S A) (parts : Parts S P A C) 
     pub never : (s : S) (c : C) (b d : ℕ) → Bounds driver s c b d → driver.can_end s c b d ≡ false → Never (driver.program s c b d)
     pub lent : (s : S) (c : C) (b d : ℕ) → Bounds driver s c b d → LendsAs driver s c b d (takes_of (driver.sort c b d))
     pub dataless : (s : S) (c : C) (b d : ℕ) → Bounds driver s c b d → LooksAs driver s c b d (takes_of (driver.sort c b d))
+    pub pays : (s : S) (c : C) (b d : ℕ) → Bounds driver s c b d → Pays (payloads_of (takes_of (driver.sort c b d)) (driver.stamps s c)) (driver.program s c b d)
 
 -- all that is known of a driver
 pub record Known {F C S A : Type 0} (driver : Driver F C S A) : Type 1 where

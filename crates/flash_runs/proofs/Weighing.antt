@@ -1,4 +1,5 @@
--- The weights of the transfers: their delays, their actions, what is read into the caller's buffer, and the looks at the caller's data.
+-- The weights of the transfers: their delays, their actions, what is read into the caller's buffer, the looks at the caller's data, and
+-- what goes out behind commands.
 use Prim.Native.Nat.{ℕ, ◌≤◌}
 use native.Mathlib.Omega.{arith}
 use Rattle.qspi.specs.declared.command.Command.{Command}
@@ -10,6 +11,7 @@ use Rattle.spi_flash.specs.Path.{delays, actions, Bounded}
 use Rattle.spi_flash.specs.Prog.{Prog}
 use Rattle.spi_flash.proofs.Dataless.{payload_data, sink_data, data_uses}
 use Rattle.spi_flash.proofs.Unread.{buffer_reads}
+use Rattle.flash_runs.proofs.Payloads.{payload_weight, stamp_weight}
 use Rattle.flash_runs.specs.Weight.{Figures, action_figures}
 
 module _ {O : Type 0} where
@@ -22,8 +24,8 @@ module _ {O : Type 0} where
   -- so much for a write, by where its bytes come from
   abbrev pub paid : Figures O → Payload → ℕ
   paid x (Payload.Data from len) = x.given
-  paid x (Payload.Filler n) = x.moved
-  paid x Payload.Marker = x.moved
+  paid x (Payload.Filler n) = x.stamp
+  paid x Payload.Marker = x.stamp
 
   abbrev pub carried : Figures O → Body → ℕ
   carried x Body.None = x.send
@@ -41,17 +43,25 @@ module _ {O : Type 0} where
   -- ---- the delays are those of the waits
 
   abbrev pub delay_figures : (O → ℕ) → Figures O
-  delay_figures waits = record { raise = 0; send = 0; moved = 0; given = 0; fill = 0; waits = waits }
+  delay_figures waits = record { raise = 0; send = 0; moved = 0; given = 0; fill = 0; stamp = 0; waits = waits }
 
   -- ---- only what is read for the caller goes into the caller's buffer
 
   abbrev pub read_figures : Figures O
-  read_figures = record { raise = 0; send = 0; moved = 0; given = 0; fill = 1; waits = λ operation. 0 }
+  read_figures = record { raise = 0; send = 0; moved = 0; given = 0; fill = 1; stamp = 0; waits = λ operation. 0 }
 
   -- ---- only what is sent for the caller, or compared, looks at the caller's data
 
   abbrev pub data_figures : Figures O
-  data_figures = record { raise = 0; send = 0; moved = 0; given = 1; fill = 0; waits = λ operation. 0 }
+  data_figures = record { raise = 0; send = 0; moved = 0; given = 1; fill = 0; stamp = 0; waits = λ operation. 0 }
+
+  -- ---- what goes out behind commands; and what of it is a mark
+
+  abbrev pub payload_figures : Figures O
+  payload_figures = record { raise = 0; send = 0; moved = 0; given = 1; fill = 0; stamp = 1; waits = λ operation. 0 }
+
+  abbrev pub stamp_figures : Figures O
+  stamp_figures = record { raise = 0; send = 0; moved = 0; given = 0; fill = 0; stamp = 1; waits = λ operation. 0 }
 
   module _ {A : Type 0} (wait : O → Prog A) where
     pub delays-weigh : (waits : O → ℕ) → ((operation : O) → Bounded delays (waits operation) (wait operation)) → Weighs delays (delay_figures waits) wait
@@ -111,3 +121,34 @@ module _ {O : Type 0} where
         framed c (Body.Write payload) = payloads payload
         framed c (Body.QuadRead tclqv margin n sink) = sinks sink
         framed c (Body.QuadWrite payload) = payloads payload
+
+    -- what goes out behind commands, and what of it is a bad-block mark
+    pub payloads-weigh : ((operation : O) → Bounded payload_weight 0 (wait operation)) → Weighs payload_weight payload_figures wait
+    payloads-weigh h = record { raised = omega arith; framed = framed; waited = h }
+      where
+        written : (payload : Payload) → 1 ≤ paid payload_figures payload
+        written (Payload.Data from len) = omega arith
+        written (Payload.Filler n) = omega arith
+        written Payload.Marker = omega arith
+
+        framed : (c : Command) (body : Body) → payload_weight (Transfer.Framed c body) ≤ carried payload_figures body
+        framed c Body.None = omega arith
+        framed c (Body.Read n sink) = omega arith
+        framed c (Body.Write payload) = written payload
+        framed c (Body.QuadRead tclqv margin n sink) = omega arith
+        framed c (Body.QuadWrite payload) = written payload
+
+    pub stamps-weigh : ((operation : O) → Bounded stamp_weight 0 (wait operation)) → Weighs stamp_weight stamp_figures wait
+    stamps-weigh h = record { raised = omega arith; framed = framed; waited = h }
+      where
+        written : (c : Command) (payload : Payload) → stamp_weight (Transfer.Framed c (Body.Write payload)) ≤ paid stamp_figures payload
+        written c (Payload.Data from len) = omega arith
+        written c (Payload.Filler n) = omega arith
+        written c Payload.Marker = omega arith
+
+        framed : (c : Command) (body : Body) → stamp_weight (Transfer.Framed c body) ≤ carried stamp_figures body
+        framed c Body.None = omega arith
+        framed c (Body.Read n sink) = omega arith
+        framed c (Body.Write payload) = written c payload
+        framed c (Body.QuadRead tclqv margin n sink) = omega arith
+        framed c (Body.QuadWrite payload) = written c payload

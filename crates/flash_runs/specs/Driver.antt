@@ -5,6 +5,7 @@ use Rattle.spi_flash.specs.Loan.{Lent}
 use Rattle.spi_flash.specs.Prog.{Prog}
 use Rattle.spi_flash.specs.Run.{Event, Entry, System, run_of, call_of, state_after}
 use Rattle.spi_flash.specs.declared.loan.Takes.{Takes}
+use Rattle.flash_runs.specs.Scratch.{Stamp}
 
 -- the answer of a call, and what the Rust's struct holds afterwards
 pub record Left (S A : Type 0) : Type 0 where
@@ -69,6 +70,8 @@ pub record Driver (F C S A : Type 0) : Type 0 where
   pub can_end : S → C → ℕ → ℕ → Bool
   -- the commands whose data go to the caller
   pub reads : List ℕ → Bool
+  -- what the call writes that is not the caller's: a bad-block mark
+  pub stamps : S → C → List Stamp
 
 -- ---- a call of it, on these lent bytes
 

@@ -10,7 +10,7 @@ use Rattle.spi_flash.specs.declared.error.FlashError.{FlashError}
 use Rattle.flash_runs.specs.Begins.{SameLooked, SameStep, first_delivered, callers_bytes}
 use Rattle.flash_runs.specs.Driver.{Driver, takes_buffer, sort_at, takes_at, run_at, flash_after}
 use Rattle.flash_runs.specs.Reading.{bytes_read, ChangesRead, HoldsRead}
-use Rattle.flash_runs.specs.Scratch.{PutsOver}
+use Rattle.flash_runs.specs.Scratch.{payloads_of, PutsOver}
 use Rattle.flash_runs.specs.Watch.{closed, StopsOnError}
 use Rattle.flash_runs.specs.WithinBound.{Begun}
 
@@ -47,8 +47,9 @@ module _ {F C S A : Type 0} (driver : Driver F C S A) where
         driver.delivered (driver.system.answer flash r bytes l).flash buffer ≡ driver.delivered flash buffer
     -- ---- the scratch, the data and select
 
-    -- what a step gives out is put at its places of the scratch, the rest stays, and so do the caller's data
-    pub scratch : (flash : F) (call : C) (l : Lent) (es : List (Event C)) → PutsOver closed (run_at driver flash call l es)
+    -- what a step gives out is put at its places of the scratch, the rest stays, and so do the caller's data; behind commands go parts of
+    -- the caller's data where the call takes them, and else the bad-block mark that the call puts
+    pub scratch : (flash : F) (call : C) (l : Lent) (es : List (Event C)) → PutsOver closed (payloads_of (takes_at driver call l) (driver.stamps (driver.setup flash) call)) (run_at driver flash call l es)
     -- every call ends with select high, whatever it was before
     pub ends_high : (flash : F) (call : C) (l : Lent) (es : List (Event C)) → EndsHigh false (run_at driver flash call l es)
     -- after a bus error select goes high, and the call fails with the error's code

@@ -45,6 +45,7 @@ module _ {F C S A : Type 0} (driver : Driver F C S A) where
         most_actions = driver.most_actions;
         can_end = driver.can_end;
         reads = driver.reads;
+        stamps = driver.stamps;
       }
 
   abbrev pub in_place : {G : Type 0} → Subject G C S A → Driver G C S A

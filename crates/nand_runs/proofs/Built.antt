@@ -13,7 +13,6 @@ use Rattle.flash_runs.specs.Built.{BuiltInside}
 use Rattle.flash_runs.proofs.Built as Built
 use Rattle.spi_nand.specs.Config.{in_bounds}
 use Rattle.spi_nand.specs.Opcode.{timings_of}
-use Rattle.spi_nand.specs.Setup.{identified_as}
 use Rattle.spi_nand.specs.Status.{status_of, busy_of}
 use Rattle.spi_nand.specs.Transfer.{task_operation}
 use Rattle.spi_nand.specs.declared.config.NandGeometry.{NandGeometry}

@@ -25,6 +25,7 @@ use Rattle.nand_runs.proofs.Simulation.{simulates}
 use Rattle.nand_runs.proofs.Opens.{opens, alike}
 use Rattle.nand_runs.proofs.Is.{nand-is}
 use Rattle.nand_runs.proofs.Lent.{lent, dataless}
+use Rattle.nand_runs.proofs.Stamps.{pays}
 
 -- ---- what a call works on is what its program does: a construction does not look at what was there before
 
@@ -120,6 +121,7 @@ supplies = record {
   never = λ s c b d h cannot. never s c b d h cannot;
   lent = lent;
   dataless = dataless;
+  pays = pays;
 }
 
 abbrev pub known : Known nand_driver

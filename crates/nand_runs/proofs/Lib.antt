@@ -12,6 +12,7 @@ pub mod Openings
 pub mod Opens
 pub mod Is
 pub mod Lent
+pub mod Stamps
 pub mod Known
 pub mod Built
 pub mod AsRust

@@ -205,7 +205,7 @@ module _ {w : Transfer → ℕ} {x : Figures Operation} (figures : Weighs w x wa
 
       -- ---- mark_bad_block
 
-      bounded-filling : Bounded w (fillers flash.geometry * x.moved) (filling flash 0)
+      bounded-filling : Bounded w (fillers flash.geometry * x.stamp) (filling flash 0)
       bounded-filling =
           bounded-loop flash.geometry.page_size _ _ (filling flash) (filling-loop flash) (filler-turns flash.geometry bounds)
           (λ c. bounded-load-data _ _ _) (fillers flash.geometry) 0 (fillers-enough flash.geometry bounds)

@@ -100,7 +100,7 @@ module _ (x : Figures Operation) where
   erasing = enabling + task Operation.Erase + x.moved
 
   abbrev pub marking : NandGeometry → ℕ
-  marking g = loading + erasing + enabling + fillers g * x.moved + x.moved + programming + loading
+  marking g = loading + erasing + enabling + fillers g * x.stamp + x.stamp + programming + loading
 
   -- the call, with a buffer of b bytes
   unfoldable pub weight_of : Setup → Call → ℕ → ℕ

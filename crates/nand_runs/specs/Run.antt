@@ -1,7 +1,8 @@
 -- The NAND driver as it is stepped, and what the statements need to know of it.
-use Rattle.std.specs.Prelude.{ℕ}
+use Rattle.std.specs.Prelude.{ℕ, ◌/◌, ◌%◌, List, [], ◌∷◌, ◌++◌, ◌==◌, replicate, if◌then◌else◌}
 use Rattle.spi_flash.specs.Run.{System}
 use Rattle.spi_flash.specs.declared.loan.Takes.{Takes}
+use Rattle.flash_runs.specs.Scratch.{Stamp, filler, marker}
 use Rattle.flash_runs.specs.Driver.{Sort, constructs, tells, releases, uses, Driver}
 use Rattle.flash_runs.specs.System.{system_of}
 use Rattle.spi_nand.specs.Config.{single_config}
@@ -51,6 +52,17 @@ sort_of (Call.Read offset) b d = uses (Takes.Buffer b)
 sort_of (Call.IsBadBlock block) b d = uses Takes.Nothing
 sort_of (Call.MarkBadBlock block) b d = uses Takes.Nothing
 
+-- what mark_bad_block puts into the chip's cache: FF over the page, in chunks of 256 bytes and what is left of it, and the marker behind it
+abbrev pub last_chunk : ℕ → List Stamp
+last_chunk n = if n == 0 then [] else filler n ∷ []
+
+abbrev pub chunks : ℕ → List Stamp
+chunks n = replicate (n / 256) (filler 256) ++ last_chunk (n % 256)
+
+abbrev pub stamps_of : Setup → Call → List Stamp
+stamps_of setup (Call.MarkBadBlock block) = chunks setup.geometry.page_size ++ marker ∷ []
+stamps_of setup _ = []
+
 -- the NAND driver, of which specs/Promises.antt of flash_runs speaks; what it reads from the cache is the caller's
 abbrev pub nand_driver : Driver SpiNandFlash Call Setup Answer
 nand_driver =
@@ -68,4 +80,5 @@ nand_driver =
       most_actions = λ setup call b d. most_actions setup call b;
       can_end = λ setup call b d. can_end setup call;
       reads = reads_cache;
+      stamps = stamps_of;
     }

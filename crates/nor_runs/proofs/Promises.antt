@@ -17,7 +17,7 @@ use Rattle.nor_runs.proofs.Agrees.{same}
 use Rattle.nor_runs.proofs.Openings.{opened, alike}
 use Rattle.nor_runs.proofs.Bounds.{bounded, acts}
 use Rattle.nor_runs.proofs.Reaches.{ends, never, reached}
-use Rattle.nor_runs.proofs.Unread.{lent, dataless}
+use Rattle.nor_runs.proofs.Unread.{lent, dataless, pays}
 use Rattle.nor_runs.proofs.Is.{nor-is}
 
 stays-next : (s : Setup) (phase : Phase) (o : Outcome) → Built phase → Stays s (next_of s phase o)
@@ -39,6 +39,7 @@ supplies = record {
   never = λ flash call b d inside cannot. rw (same flash call b d inside) (never flash call b d cannot);
   lent = lent;
   dataless = dataless;
+  pays = pays;
 }
 
 abbrev pub known : Known nor_driver

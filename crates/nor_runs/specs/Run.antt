@@ -1,6 +1,6 @@
 -- The NOR driver as the promises speak of it: the code's own steps, as a system that is driven event by event, what each call is, and
 -- the figures.
-use Rattle.std.specs.Prelude.{ℕ, Bool, true}
+use Rattle.std.specs.Prelude.{ℕ, Bool, true, []}
 use Rattle.spi_flash.specs.Run.{System}
 use Rattle.spi_flash.specs.declared.loan.Takes.{Takes}
 use Rattle.flash_runs.specs.Driver.{Sort, constructs, tells, releases, uses, Driver}
@@ -67,6 +67,7 @@ nor_driver = record {
   most_actions = most_actions;
   can_end = λ flash call b d. can_end (sort_of call b d);
   reads = λ command. true;
+  stamps = λ flash call. [];
 }
 
 -- what both drivers promise
