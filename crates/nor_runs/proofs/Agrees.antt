@@ -42,7 +42,8 @@ use Rattle.nor_runs.specs.Program.{leaving, program_of}
 use Rattle.nor_runs.specs.Run.{nor_driver}
 use Rattle.flash_runs.proofs.Supplies.{Bounds}
 use Rattle.nor_runs.proofs.AsCoded as Coded
-use Rattle.nor_runs.proofs.AsCoded.{coded}
+use Rattle.nor_runs.specs.Bound.{erase_sum}
+use Rattle.nor_runs.proofs.AsCoded.{coded, coded_sum}
 use Rattle.nor_runs.proofs.Loops.{writing-loop}
 use Rattle.nor_runs.proofs.RustLoops.{nor-loops}
 
@@ -128,6 +129,13 @@ module _ (device : NorDeviceInfo) (bounds : in_bounds_of device ≡ true) where
       (by_cases (multiple_of address device.block_size)
       (λ e. by_cases (leb device.block_size (to - address)) (λ d. rw (e, d) (ap (λ n. (EraseKind.Block, n)) (u32-same address device.block_size (omega arith)))) (λ d. rw (e, d) sector))
       (λ e. rw e sector))
+
+  pub sum-same : (figure : EraseKind → ℕ) (fuel address to : ℕ) → to ≤ device.capacity → erase_sum figure device fuel address to ≡ coded_sum figure device fuel address to
+  sum-same figure zero address to most = refl
+  sum-same figure (suc fuel) address to most =
+      by_cases (ltb address to)
+      (λ e. rw (e, step-same address to (ltb-true address to e) most, sum-same figure fuel (after_unit device (step_kind device address to) address) to most) refl)
+      (λ e. rw e refl)
 
 -- ---- read
 

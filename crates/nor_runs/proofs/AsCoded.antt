@@ -1,6 +1,7 @@
 -- The calls with loops, and the construction, in the driver's own words (`place_of`, `chunk_of`, `step_kind` ..), of which its machine is made.
 -- Inside the bounds the Rust's come to them (`Agrees.antt`).
 use Rattle.std.specs.Prelude.{ℕ, zero, suc, ◌+◌, ◌-◌, not, ltb, eqb, if◌then◌else◌}
+use Rattle.qspi.specs.Choice.{pick}
 use Rattle.qspi.specs.declared.transfer.Sink.{Sink}
 use Rattle.qspi.specs.declared.transfer.Transfer.{Transfer}
 use Rattle.spi_flash.specs.Number.{number_transfer}
@@ -10,6 +11,7 @@ use Rattle.spi_flash.specs.declared.error.FlashError.{FlashError}
 use Rattle.spi_nor.specs.Command.{read_id_command}
 use Rattle.spi_nor.specs.Config.{single_config}
 use Rattle.spi_nor.specs.Transfer.{place_of, chunk_of, page_of, read_transfer, program_transfer, erase_transfer, erase_operation, multiple_of, unit_size, step_kind, after_unit}
+use Rattle.spi_nor.specs.declared.config.NorDeviceInfo.{NorDeviceInfo}
 use Rattle.spi_nor.specs.declared.config.SpiNorConfig.{SpiNorConfig}
 use Rattle.spi_nor.specs.declared.opcode.Operation.{Operation}
 use Rattle.spi_nor.specs.declared.phase.EraseKind.{EraseKind}
@@ -119,6 +121,14 @@ with-config config = do
   refuse (ltb MAX-VERIFY-PAGE-SIZE flash.device.page_size) FlashError.NotSupported
   quad-if config.quad
   ret flash
+
+-- the sum over erase's steps, of a figure for each kind of step
+abbrev pub coded_sum : (EraseKind → ℕ) → NorDeviceInfo → (fuel address to : ℕ) → ℕ
+coded_sum figure device zero address to = 0
+coded_sum figure device (suc fuel) address to =
+    pick (ltb address to)
+    (figure (step_kind device address to) + coded_sum figure device fuel (after_unit device (step_kind device address to) address) to)
+    0
 
 -- the program of each call, of which the driver is made
 unfoldable pub coded : Setup → Call → ℕ → ℕ → Prog Left

@@ -64,7 +64,7 @@ bounded flash Call.DisableQuad b d h = within flash Call.DisableQuad b d h (omeg
 bounded flash (Call.Read offset) b d h = within flash (Call.Read offset) b d h (omega arith)
 bounded flash (Call.Write offset) b d h = within flash (Call.Write offset) b d h (omega arith)
 bounded flash Call.Unprotect b d h = within flash Call.Unprotect b d h (omega arith)
-bounded flash (Call.Erase from to) b d h = rw (same flash (Call.Erase from to) b d h) (ended _ (omega arith) (bounded-erase delay-figures flash unit_bound (λ kind. omega (arith, unit-delays kind)) from to))
+bounded flash (Call.Erase from to) b d h = rw (same flash (Call.Erase from to) b d h) (ended _ (omega arith) (bounded-erase delay-figures flash unit_bound (λ kind. omega (arith, unit-delays kind)) h from to))
 bounded flash (Call.EraseSector offset) b d h = within flash (Call.EraseSector offset) b d h (omega arith)
 bounded flash (Call.EraseBlock offset) b d h = within flash (Call.EraseBlock offset) b d h (omega arith)
 

@@ -43,6 +43,8 @@ use Rattle.spi_nor.proofs.Pieces.{page-whole}
 use Rattle.spi_flash.proofs.Pieces.{range-told, range-in}
 use Rattle.nor_runs.proofs.Loops.{reading-loop, writing-loop, chunk-turns, page-turns, after-unit}
 use Rattle.nor_runs.proofs.Waits.{wait-ends}
+use Rattle.nor_runs.proofs.AsCoded.{coded_sum}
+use Rattle.nor_runs.proofs.Agrees.{sum-same}
 use Rattle.nor_runs.proofs.Passed.{read-passed, write-passed, erase-passed, unit-passed}
 use Rattle.nor_runs.proofs.EraseSteps.{step_fits}
 
@@ -191,7 +193,7 @@ module _ (given : List ℕ) where
     sector = flash.device.sector_size
 
     module _ (to : ℕ) (most : to ≤ flash.device.capacity) (end : to % sector ≡ 0) where
-      ends-erasing : (n address : ℕ) → address % sector ≡ 0 → Ends given delays (erase_sum unit_bound flash.device n address to) tt (erase-loop flash n address to)
+      ends-erasing : (n address : ℕ) → address % sector ≡ 0 → Ends given delays (coded_sum unit_bound flash.device n address to) tt (erase-loop flash n address to)
       unfolding erase-loop
       ends-erasing zero address a = ends-ret
       ends-erasing (suc n) address a = turn (ltb address to) refl (λ h. ends-erasing n next h)
@@ -202,8 +204,8 @@ module _ (given : List ℕ) where
           next : ℕ
           next = after_unit flash.device kind address
 
-          turn : (b : Bool) → ltb address to ≡ b → (next % sector ≡ 0 → Ends given delays (erase_sum unit_bound flash.device n next to) tt (erase-loop flash n next to)) →
-              Ends given delays (pick b (unit_bound kind + erase_sum unit_bound flash.device n next to) 0) tt (if b then (erase-unit flash kind address >> erase-loop flash n next to) else ret (tt {0}))
+          turn : (b : Bool) → ltb address to ≡ b → (next % sector ≡ 0 → Ends given delays (coded_sum unit_bound flash.device n next to) tt (erase-loop flash n next to)) →
+              Ends given delays (pick b (unit_bound kind + coded_sum unit_bound flash.device n next to) 0) tt (if b then (erase-unit flash kind address >> erase-loop flash n next to) else ret (tt {0}))
           turn true e h =
               let s = step_fits flash.device address to bounds most a end (ltb-true address to e) in
               ends-then (ends-unit kind address s.fits s.aligned) (h (rw (after-unit flash.device bounds kind address s.fits) s.next))
@@ -217,7 +219,8 @@ module _ (given : List ℕ) where
         ends-guard _ _ a
         (ends-guard _ _ b
         (ends-guard _ _ (ap not c)
-        (ends-guard _ _ (ap not d) (ends-erasing to z (eqb-true (to % sector) 0 d) (to - from) from (eqb-true (from % sector) 0 c)))))
+        (ends-guard _ _ (ap not d)
+        (rw (sum-same flash.device bounds unit_bound (to - from) from to z) (ends-erasing to z (eqb-true (to % sector) 0 d) (to - from) from (eqb-true (from % sector) 0 c))))))
 
   -- ---- construction, on the id 0
 

@@ -29,13 +29,15 @@ use Rattle.spi_nor.specs.Opcode.{timings_of}
 use Rattle.spi_nor.specs.Command.{read_status1_command}
 use Rattle.spi_nor.specs.declared.config.NorDeviceInfo.{NorDeviceInfo}
 use Rattle.spi_flash.specs.Range.{range_in_bounds}
-use Rattle.spi_nor.specs.Transfer.{place_of, chunk_of, read_at, read_transfer, step_kind, after_unit}
+use Rattle.spi_nor.specs.Transfer.{place_of, chunk_of, read_at, read_transfer}
 use Rattle.spi_nor.proofs.Pieces.{chunk-within}
 use Rattle.spi_nor.specs.declared.answer.Answer.{Answer}
 use Rattle.spi_nor.specs.declared.opcode.Operation.{Operation}
 use Rattle.spi_nor.specs.declared.setup.Setup.{Setup}
 use Rattle.spi_nor.specs.declared.call.Call.{Call}
 use Rattle.nor_runs.specs.Rust.{busy_value, wait-ready}
+use Rattle.std.specs.Prelude.{if◌then◌else◌}
+use Rattle.nor_runs.specs.Rust.{erase_step}
 use Rattle.nor_runs.proofs.AsCoded.{reading, read}
 use Rattle.nor_runs.specs.Program.{Left, leaving, program_of}
 use Rattle.nor_runs.specs.Bound.{page_taken, erase_sum, enabling_quad, quad_weight, weight_of}
@@ -54,10 +56,9 @@ unread-figures = reads-weigh wait-ready (λ operation. unread-wait read_status1_
 -- nothing for each step is nothing
 no-sum : (device : NorDeviceInfo) (n address to : ℕ) → erase_sum (λ kind. 0) device n address to ≤ 0
 no-sum device zero address to = omega arith
-no-sum device (suc n) address to = at (ltb address to) (no-sum device n (after_unit device (step_kind device address to) address) to)
+no-sum device (suc n) address to = at (ltb address to) (no-sum device n (erase_step address to device.sector_size device.block_size).1 to)
   where
-    at : (b : Bool) → erase_sum (λ kind. 0) device n (after_unit device (step_kind device address to) address) to ≤ 0 →
-        pick b (0 + erase_sum (λ kind. 0) device n (after_unit device (step_kind device address to) address) to) 0 ≤ 0
+    at : (b : Bool) {m : ℕ} → m ≤ 0 → (if b then 0 + m else 0) ≤ 0
     at true h = omega arith
     at false h = omega arith
 

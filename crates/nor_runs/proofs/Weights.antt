@@ -34,7 +34,9 @@ use Rattle.nor_runs.specs.Rust.{read-status1, read-status2, is-busy, wait-ready,
 use Rattle.nor_runs.proofs.AsCoded.{reading, read, read_back, page-program, writing, write, erase-unit, erase-loop, erasing, erase, with-config}
 use Rattle.nor_runs.specs.Bound.{page_taken, erase_sum, pieces, task, unit, paged, enabling_quad, quad_weight, constructing, weight_of}
 use Rattle.nor_runs.specs.Program.{program_of}
-use Rattle.nor_runs.proofs.AsCoded.{coded}
+use Rattle.spi_nor.specs.Config.{in_bounds_of}
+use Rattle.nor_runs.proofs.AsCoded.{coded, coded_sum}
+use Rattle.nor_runs.proofs.Agrees.{sum-same}
 use Rattle.nor_runs.specs.Run.{nor_driver}
 use Rattle.spi_nor.specs.declared.config.NorJedecId.{NorJedecId}
 use Rattle.spi_nor.specs.declared.config.SpiNorConfig.{SpiNorConfig}
@@ -203,7 +205,7 @@ module _ {w : Transfer → ℕ} {x : Figures Operation} (figures : Weighs w x wa
         sent EraseKind.Block = bounded-send _
 
     module _ (figure : EraseKind → ℕ) (enough : (kind : EraseKind) → unit x kind ≤ figure kind) where
-      bounded-erasing : (n address to : ℕ) → Bounded w (erase_sum figure flash.device n address to) (erase-loop flash n address to)
+      bounded-erasing : (n address to : ℕ) → Bounded w (coded_sum figure flash.device n address to) (erase-loop flash n address to)
       unfolding erase-loop
       bounded-erasing zero address to = bounded-ret
       bounded-erasing (suc n) address to = turn (ltb address to) (bounded-erasing n next to)
@@ -214,15 +216,19 @@ module _ {w : Transfer → ℕ} {x : Figures Operation} (figures : Weighs w x wa
           next : ℕ
           next = after_unit flash.device kind address
 
-          turn : (b : Bool) → Bounded w (erase_sum figure flash.device n next to) (erase-loop flash n next to) →
-              Bounded w (pick b (figure kind + erase_sum figure flash.device n next to) 0) (if b then (erase-unit flash kind address >> erase-loop flash n next to) else ret (tt {0}))
+          turn : (b : Bool) → Bounded w (coded_sum figure flash.device n next to) (erase-loop flash n next to) →
+              Bounded w (pick b (figure kind + coded_sum figure flash.device n next to) 0) (if b then (erase-unit flash kind address >> erase-loop flash n next to) else ret (tt {0}))
           turn true h = bounded-then (bounded-more (enough kind) (bounded-unit kind address)) h
           turn false h = bounded-ret
 
-      pub bounded-erase : (from to : ℕ) → Bounded w (erase_sum figure flash.device (to - from) from to) (erase flash from to)
+      pub bounded-erase : in_bounds_of flash.device ≡ true → (from to : ℕ) → Bounded w (erase_sum figure flash.device (to - from) from to) (erase flash from to)
       unfolding erase erasing
-      bounded-erase from to =
-          bounded-guard _ _ (λ a. bounded-guard _ _ (λ b. bounded-guard _ _ (λ c. bounded-guard _ _ (λ d. bounded-erasing (to - from) from to))))
+      bounded-erase inside from to =
+          bounded-guard _ _
+          (λ a. bounded-guard _ _
+          (λ b. bounded-guard _ _
+          (λ c. bounded-guard _ _
+          (λ d. rw (sum-same flash.device inside figure (to - from) from to (ltb-false flash.device.capacity to b)) (bounded-erasing (to - from) from to)))))
 
   -- ---- construction: quad mode is enabled only where the page is taken
 
@@ -264,6 +270,6 @@ module _ {w : Transfer → ℕ} {x : Figures Operation} (figures : Weighs w x wa
   weighed flash (Call.Read offset) b d h = ended _ (omega arith) (bounded-read flash offset b)
   weighed flash (Call.Write offset) b d h = ended _ (omega arith) (bounded-write flash (device_bounds.accepted flash.device h).least_page offset d)
   weighed flash Call.Unprotect b d h = answered _ (omega arith) bounded-unprotect
-  weighed flash (Call.Erase from to) b d h = ended _ (omega arith) (bounded-erase flash (unit x) (λ kind. omega arith) from to)
+  weighed flash (Call.Erase from to) b d h = ended _ (omega arith) (bounded-erase flash (unit x) (λ kind. omega arith) h from to)
   weighed flash (Call.EraseSector offset) b d h = ended _ (omega arith) (bounded-unit flash EraseKind.Sector offset)
   weighed flash (Call.EraseBlock offset) b d h = ended _ (omega arith) (bounded-unit flash EraseKind.Block offset)
