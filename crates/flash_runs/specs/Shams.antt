@@ -28,9 +28,9 @@ pub record Subject (G C S A : Type 0) : Type 0 where
   pub fresh : G
 
 module _ {F C S A : Type 0} (driver : Driver F C S A) where
-  -- held against what the driver is held against, with bounds on the delays of its own
-  abbrev pub judged : {G : Type 0} → Subject G C S A → (S → C → ℕ → ℕ → ℕ) → Driver G C S A
-  judged sham bound =
+  -- held against what the driver is held against
+  abbrev pub in_place : {G : Type 0} → Subject G C S A → Driver G C S A
+  in_place sham =
       record {
         system = sham.system;
         setup = sham.setup;
@@ -41,33 +41,27 @@ module _ {F C S A : Type 0} (driver : Driver F C S A) where
         sort = driver.sort;
         in_bounds = driver.in_bounds;
         program = driver.program;
-        delay_bound = bound;
+        delay_bound = driver.delay_bound;
         most_actions = driver.most_actions;
         can_end = driver.can_end;
         reads = driver.reads;
         stamps = driver.stamps;
       }
 
-  abbrev pub in_place : {G : Type 0} → Subject G C S A → Driver G C S A
-  in_place sham = judged sham driver.delay_bound
-
-  -- the driver, but for how it is stepped; but for its bounds
-  abbrev pub stepping : System F C (Left S A) → Subject F C S A
-  stepping system = record { system = system; setup = driver.setup; built = driver.built; delivered = driver.delivered; fresh = driver.fresh }
-
+  -- the driver, but for its bounds on delays
   abbrev pub billing : (S → C → ℕ → ℕ → ℕ) → Driver F C S A
-  billing bound = judged (stepping driver.system) bound
+  billing bound = record driver { delay_bound = bound }
 
-  -- what each of its steps comes to is altered
+  -- the driver, but for what each of its steps comes to
   abbrev pub altered : (Moved F (Left S A) → Moved F (Left S A)) → Driver F C S A
   altered f =
-      in_place
-      (stepping
-      (record {
-        begin = λ flash call l. f (driver.system.begin flash call l);
-        answer = λ flash r bytes l. f (driver.system.answer flash r bytes l);
-        running = driver.system.running;
-      }))
+      record driver {
+        system = record {
+          begin = λ flash call l. f (driver.system.begin flash call l);
+          answer = λ flash r bytes l. f (driver.system.answer flash r bytes l);
+          running = driver.system.running;
+        };
+      }
 
 -- one result for all, after honest traffic
 abbrev pub answered_as : {S A : Type 0} → A → Given (Left S A) → Given (Left S A)
