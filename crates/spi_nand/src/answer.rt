@@ -1,6 +1,6 @@
-// The values of an answer in the order in which a trace prints them: how many, and each by its place. As a list they would be an ArrayVec
-// of the kit, which takes a slice by a call that may fail, or one value after the other, for each of which its room must be shown. Past the
-// last one a value is 0.
+//! The values of an answer in the order in which a trace prints them: how many, and each by its place. As a list they would be an ArrayVec
+//! of the kit, which takes a slice by a call that may fail, or one value after the other, for each of which its room must be shown. Past the
+//! last one a value is 0.
 ghost use Rattle.std.specs.Prelude.{◌≡◌, get_or, length};
 ghost use Rattle.spi_nand.specs.Answer.{id_values, info_values, geometry_values, quad_numbers, answer_values};
 
@@ -8,7 +8,7 @@ use crate::config::{NandGeometry, NandInit, NandJedecId, NandQuadConfig, SpiNand
 use crate::status::{Configuration, Protection, Status};
 use spi_flash::value;
 
-// What a call that succeeds answers.
+/// What a call that succeeds answers.
 #[derive(Clone, Copy)]
 pub enum Answer {
     Done,
@@ -65,6 +65,7 @@ fn quad_numbers(quad: NandQuadConfig) -> [u64; 4]
 
 // What is alike in the NOR's answers is in `spi_flash::value`: here stands which answer has which numbers.
 impl Answer {
+    /// How many numbers a trace prints of it.
     pub fn value_count(self) -> usize
         ensures { result ≡ length (answer_values self) }
     {
@@ -84,7 +85,7 @@ impl Answer {
         }
     }
 
-    // 0 past the last value.
+    /// The number at a place; 0 past the last one.
     pub fn value(self, i: usize) -> u64
         ensures { result ≡ get_or (answer_values self) i 0 }
     {

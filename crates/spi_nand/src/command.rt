@@ -1,5 +1,5 @@
-// The commands that the driver sends: the arrays of nand/driver.rs. A function a row: a generic one would take the opcode in place of
-// a name.
+//! The commands that the driver sends: the arrays of nand/driver.rs. A function a row: a generic one would take the opcode in place of
+//! a name.
 ghost use Rattle.std.specs.Prelude.{◌≡◌, ◌%◌};
 ghost use Rattle.spi_nand.specs.Command.{row_address, column_address, reset_command, read_id_command, get_feature_command, set_feature_command, write_enable_command, page_read_command, read_cache_command, block_erase_command, load_program_data_command, program_execute_command, quad_read_cache_command, quad_load_program_data_command};
 
@@ -21,12 +21,14 @@ fn column_address(column: usize) -> u16
     (column % 65_536) as u16
 }
 
+/// Resets the part.
 pub fn reset_command() -> Command
     ensures { result ≡ reset_command }
 {
     Command::Opcode(opcode::RESET)
 }
 
+/// Asks for the id.
 pub fn read_id_command() -> Command
     ensures { result ≡ read_id_command }
 {
@@ -36,6 +38,7 @@ pub fn read_id_command() -> Command
     }
 }
 
+/// Asks for a register.
 pub fn get_feature_command(register: u8) -> Command
     ensures { result ≡ get_feature_command register }
 {
@@ -45,6 +48,7 @@ pub fn get_feature_command(register: u8) -> Command
     }
 }
 
+/// Writes a register.
 pub fn set_feature_command(register: u8, value: u8) -> Command
     ensures { result ≡ set_feature_command register value }
 {
@@ -55,13 +59,14 @@ pub fn set_feature_command(register: u8, value: u8) -> Command
     }
 }
 
+/// Sets the write-enable latch.
 pub fn write_enable_command() -> Command
     ensures { result ≡ write_enable_command }
 {
     Command::Opcode(opcode::WRITE_ENABLE)
 }
 
-// Loads a page into the cache.
+/// Loads a page into the cache.
 pub fn page_read_command(page: usize) -> Command
     ensures { result ≡ page_read_command page }
 {
@@ -71,6 +76,7 @@ pub fn page_read_command(page: usize) -> Command
     }
 }
 
+/// Reads the cache from a column on.
 pub fn read_cache_command(column: usize) -> Command
     ensures { result ≡ read_cache_command column }
 {
@@ -80,7 +86,7 @@ pub fn read_cache_command(column: usize) -> Command
     }
 }
 
-// Erases the block whose first page this is.
+/// Erases the block whose first page this is.
 pub fn block_erase_command(page: usize) -> Command
     ensures { result ≡ block_erase_command page }
 {
@@ -90,6 +96,7 @@ pub fn block_erase_command(page: usize) -> Command
     }
 }
 
+/// Loads data into the cache from a column on.
 pub fn load_program_data_command(column: usize) -> Command
     ensures { result ≡ load_program_data_command column }
 {
@@ -99,7 +106,7 @@ pub fn load_program_data_command(column: usize) -> Command
     }
 }
 
-// Programs the cache into a page.
+/// Programs the cache into a page.
 pub fn program_execute_command(page: usize) -> Command
     ensures { result ≡ program_execute_command page }
 {
@@ -110,6 +117,7 @@ pub fn program_execute_command(page: usize) -> Command
 }
 
 // On four lines the bus makes the dummy bytes itself, from tCLQV and the margin.
+/// Reads the cache on four lines.
 pub fn quad_read_cache_command(quad: NandQuadConfig, column: usize) -> Command
     ensures { result ≡ quad_read_cache_command quad column }
 {
@@ -119,6 +127,7 @@ pub fn quad_read_cache_command(quad: NandQuadConfig, column: usize) -> Command
     }
 }
 
+/// Loads data into the cache on four lines.
 pub fn quad_load_program_data_command(quad: NandQuadConfig, column: usize) -> Command
     ensures { result ≡ quad_load_program_data_command quad column }
 {

@@ -75,6 +75,7 @@ const MAX_PAGE_COUNT: usize = 16_777_216;
 
 // A product that is too large stops at the largest usize.
 impl NandGeometry {
+    /// A part of 1 Gbit.
     pub const W25N01GV: Self = Self {
         page_size: 2048,
         oob_size: 64,
@@ -82,6 +83,7 @@ impl NandGeometry {
         block_count: 1024,
     };
 
+    /// A part of 2 Gbit.
     pub const W25N02KV: Self = Self {
         page_size: 2048,
         oob_size: 128,

@@ -1,5 +1,5 @@
-// Where a call stands: which of its transfers is out, and what that is for.
-// Enums and no closures: the host holds this between two replies, by value, and no function may hand a closure out.
+//! Where a call stands: which of its transfers is out, and what that is for.
+//! Enums and no closures: the host holds this between two replies, by value, and no function may hand a closure out.
 ghost use Rattle.std.specs.Prelude.{◌≡◌};
 ghost use Rattle.spi_nand.specs.Verdict.{asks_verdict};
 
@@ -8,13 +8,14 @@ use spi_flash::range::Span;
 
 // Here and below `bring_up` tells a part of bring_up from a call of its own: the same value is kept in both, so it is no Option.
 // `Reset`, and below `Call`, is a call of its own, which the None of an Option would not say.
+/// What a reset is for.
 #[derive(Clone, Copy)]
 pub enum ResetFor {
     Reset,
     Identify { bring_up: bool },
 }
 
-// What write_register is for.
+/// What write_register is for.
 #[derive(Clone, Copy)]
 pub enum RegisterFor {
     Call,
@@ -31,7 +32,7 @@ pub enum RegisterFor {
     },
 }
 
-// What is_bad_block is for.
+/// What is_bad_block is for.
 #[derive(Clone, Copy)]
 pub enum MarkerFor {
     Call,
@@ -40,7 +41,7 @@ pub enum MarkerFor {
     Confirm,
 }
 
-// What a page is loaded for.
+/// What a page is loaded for.
 #[derive(Clone, Copy)]
 pub enum LoadFor {
     PageRead,
@@ -54,7 +55,7 @@ pub enum LoadFor {
 }
 
 impl LoadFor {
-    // is_bad_block takes a page whatever its verdict.
+    /// Whether the page is judged: is_bad_block takes it whatever its verdict.
     pub fn asks_verdict(self) -> bool
         ensures { result ≡ asks_verdict self }
     {
@@ -62,7 +63,7 @@ impl LoadFor {
     }
 }
 
-// What program_execute is for: a page, or the block that is marked.
+/// What program_execute is for: a page, or the block that is marked.
 #[derive(Clone, Copy)]
 pub enum ProgramFor {
     Call,
@@ -70,14 +71,14 @@ pub enum ProgramFor {
     MarkBad(usize),
 }
 
-// What erase_block is for.
+/// What erase_block is for.
 #[derive(Clone, Copy)]
 pub enum EraseFor {
     Call,
     MarkBad(usize),
 }
 
-// What the write-enable latch is set for.
+/// What the write-enable latch is set for.
 #[derive(Clone, Copy)]
 pub enum EnableFor {
     Call,
@@ -94,14 +95,14 @@ pub enum EnableFor {
     MarkBad(usize),
 }
 
-// Where write_enable stands: its command is out, or the look at its latch.
+/// Where write_enable stands: its command is out, or the look at its latch.
 #[derive(Clone, Copy)]
 pub enum EnableStep {
     Command,
     Latch,
 }
 
-// A command with a wait behind it.
+/// A command with a wait behind it.
 #[derive(Clone, Copy)]
 pub enum Task {
     Reset(ResetFor),
@@ -111,8 +112,8 @@ pub enum Task {
     Erase(EraseFor),
 }
 
-// Where a task stands: its command is out, a look at the status, a delay between two looks, or the status that tells how it went.
-// The number is the microseconds asked so far, those of the delay that is out among them.
+/// Where a task stands: its command is out, a look at the status, a delay between two looks, or the status that tells how it went.
+/// The number is the microseconds asked so far, those of the delay that is out among them.
 #[derive(Clone, Copy)]
 pub enum WaitStep {
     Command,
@@ -121,7 +122,7 @@ pub enum WaitStep {
     Verdict,
 }
 
-// What a register or the id is read for.
+/// What a register or the id is read for.
 #[derive(Clone, Copy)]
 pub enum Asked {
     // read_status, read_configuration, read_protection
@@ -150,6 +151,7 @@ pub enum Asked {
     QuadDisabled,
 }
 
+/// Which transfer of a call is out.
 #[derive(Clone, Copy)]
 pub enum Phase {
     // with_config

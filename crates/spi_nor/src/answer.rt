@@ -1,13 +1,13 @@
-// The values of an answer in the order in which a trace prints them: how many, and each by its place. As a list they would be an ArrayVec
-// of the kit, which takes a slice by a call that may fail, or one value after the other, for each of which its room must be shown. Past the
-// last one a value is 0.
+//! The values of an answer in the order in which a trace prints them: how many, and each by its place. As a list they would be an ArrayVec
+//! of the kit, which takes a slice by a call that may fail, or one value after the other, for each of which its room must be shown. Past the
+//! last one a value is 0.
 ghost use Rattle.std.specs.Prelude.{◌≡◌, get_or, length};
 ghost use Rattle.spi_nor.specs.Answer.{id_values, device_values, quad_numbers, answer_values};
 
 use crate::config::{NorDeviceInfo, NorJedecId, NorQuadConfig, SpiNorConfig};
 use spi_flash::value;
 
-// What a call that succeeds answers.
+/// What a call that succeeds answers.
 #[derive(Clone, Copy)]
 pub enum Answer {
     Done,
@@ -55,6 +55,7 @@ fn quad_numbers(quad: NorQuadConfig) -> [u64; 4]
 
 // What is alike in the NAND's answers is in `spi_flash::value`: here stands which answer has which numbers.
 impl Answer {
+    /// How many numbers a trace prints of it.
     pub fn value_count(self) -> usize
         ensures { result ≡ length (answer_values self) }
     {
@@ -71,7 +72,7 @@ impl Answer {
         }
     }
 
-    // 0 past the last value.
+    /// The number at a place; 0 past the last one.
     pub fn value(self, i: usize) -> u64
         ensures { result ≡ get_or (answer_values self) i 0 }
     {

@@ -1,6 +1,7 @@
-// The public calls of SpiNorFlash, with their numbers.
+//! The public calls of SpiNorFlash, with their numbers.
 use crate::config::SpiNorConfig;
 
+/// A call under the Rust's name; what it lends stands beside it.
 #[derive(Clone, Copy)]
 pub enum Call {
     New,

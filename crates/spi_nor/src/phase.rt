@@ -1,5 +1,5 @@
-// Where a call stands: which of its transfers is out.
-// Enums and no closures: the host holds this between two replies, by value, and no function may hand a closure out.
+//! Where a call stands: which of its transfers is out.
+//! Enums and no closures: the host holds this between two replies, by value, and no function may hand a closure out.
 use spi_flash::range::Span;
 
 /// Which of the two erases.
@@ -9,7 +9,7 @@ pub enum EraseKind {
     Block,
 }
 
-// A write to the part, from its write enable to the end of its wait.
+/// A write to the part, from its write enable to the end of its wait.
 #[derive(Clone, Copy)]
 pub enum Task {
     // enable_quad, with the register as it was read.
@@ -37,7 +37,7 @@ pub enum Task {
     },
 }
 
-// Where a task stands: write_enable is out, the look at its latch, the command, a look at the status, or a delay between two looks.
+/// Where a task stands: write_enable is out, the look at its latch, the command, a look at the status, or a delay between two looks.
 #[derive(Clone, Copy)]
 pub enum WriteStep {
     Enable,
@@ -48,6 +48,7 @@ pub enum WriteStep {
     Pause(u32),
 }
 
+/// Which transfer of a call is out.
 #[derive(Clone, Copy)]
 pub enum Phase {
     // with_config

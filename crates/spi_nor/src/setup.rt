@@ -1,7 +1,7 @@
-// What a call works on.
+//! What a call works on.
 use crate::config::{NorDeviceInfo, NorJedecId, SpiNorConfig};
 
-// What the Rust's struct holds beside its bus.
+/// What the Rust's struct holds beside its bus.
 #[derive(Clone, Copy)]
 pub struct Setup {
     pub config: SpiNorConfig,

@@ -1,4 +1,4 @@
-// The transfers of the calls, at the configured bus width.
+//! The transfers of the calls, at the configured bus width.
 ghost use Rattle.std.specs.Prelude.{◌≡◌, ◌+◌};
 ghost use Rattle.qspi.specs.Transfer.{command_only};
 ghost use Rattle.spi_flash.specs.Range.{span};
@@ -14,7 +14,7 @@ use qspi::transfer::{Body, Payload, Sink, Transfer};
 use spi_flash::range;
 use spi_flash::range::Span;
 
-// `offset + done as u32`; the NAND's offset is a usize, as in the Rust.
+/// `offset + done as u32`; the NAND's offset is a usize, as in the Rust.
 #[tactic(auto, unfolding(crate::specs::Transfer::place_of))]
 pub fn place(span: Span<u32>) -> u32
     ensures { result ≡ place_of span.offset span.done }
@@ -22,7 +22,7 @@ pub fn place(span: Span<u32>) -> u32
     span.offset.wrapping_add((span.done % 4294967296) as u32)
 }
 
-// The bytes of the next piece of `read`.
+/// The bytes of the next piece of `read`.
 #[tactic(auto, unfolding(crate::specs::Transfer::chunk_of))]
 pub fn chunk(span: Span<u32>) -> usize
     ensures { result ≡ chunk_of span.len span.done }
@@ -30,7 +30,7 @@ pub fn chunk(span: Span<u32>) -> usize
     range::piece(opcode::MAX_BULK_LEN, span.len, span.done)
 }
 
-// Where the call stands after that piece.
+/// Where the call stands after that piece.
 #[tactic(auto, unfolding(crate::specs::Transfer::chunk_of))]
 pub fn past_chunk(s: Span<u32>) -> Span<u32>
     ensures { result ≡ span s.offset s.len (s.done + chunk_of s.len s.done) }
@@ -38,7 +38,7 @@ pub fn past_chunk(s: Span<u32>) -> Span<u32>
     s.past(opcode::MAX_BULK_LEN)
 }
 
-// The bytes of the next page of `write`.
+/// The bytes of the next page of `write`.
 #[tactic(auto, unfolding(crate::specs::Transfer::page_of))]
 pub fn page_chunk(device: NorDeviceInfo, span: Span<u32>) -> usize
     ensures { result ≡ page_of device span.len span.done }
@@ -46,7 +46,7 @@ pub fn page_chunk(device: NorDeviceInfo, span: Span<u32>) -> usize
     range::piece(device.page_size, span.len, span.done)
 }
 
-// Where the call stands after that page.
+/// Where the call stands after that page.
 #[tactic(auto, unfolding(crate::specs::Transfer::page_of))]
 pub fn past_page(device: NorDeviceInfo, s: Span<u32>) -> Span<u32>
     ensures { result ≡ span s.offset s.len (s.done + page_of device s.len s.done) }
@@ -56,6 +56,7 @@ pub fn past_page(device: NorDeviceInfo, s: Span<u32>) -> Span<u32>
 
 // Both widths stand here, and in the NAND's transfers likewise: a common form would take both commands, the timing and the margin
 // beside what is read, and the match would stand at each call of it.
+/// A piece of read, or the read-back of a page, on one line or four.
 #[tactic(auto, unfolding(crate::specs::Transfer::read_transfer))]
 pub fn read_transfer(setup: Setup, offset: u32, len: usize, sink: Sink) -> Transfer
     ensures { result ≡ read_transfer setup offset len sink }
@@ -104,7 +105,7 @@ fn erase_transfer(kind: EraseKind, address: u32) -> Transfer
     }
 }
 
-// What a task sends once the write-enable latch is set.
+/// What a task sends once the write-enable latch is set.
 #[tactic(auto, unfolding(crate::specs::Transfer::task_transfer))]
 pub fn task_transfer(setup: Setup, task: Task) -> Transfer
     ensures { result ≡ task_transfer setup task }
@@ -143,7 +144,7 @@ fn write_status2(value: u8) -> Transfer
     qspi::transfer::command_only(command::write_status2_command(value))
 }
 
-// Whose wait follows.
+/// Whose wait follows.
 #[tactic(auto, unfolding(crate::specs::Transfer::task_operation))]
 pub fn task_operation(task: Task) -> Operation
     ensures { result ≡ task_operation task }
@@ -163,6 +164,7 @@ pub fn task_operation(task: Task) -> Operation
     }
 }
 
+/// The bytes that an erase clears.
 pub fn unit_size(device: NorDeviceInfo, kind: EraseKind) -> usize
     ensures { result ≡ unit_size device kind }
 {
@@ -172,7 +174,7 @@ pub fn unit_size(device: NorDeviceInfo, kind: EraseKind) -> usize
     }
 }
 
-// erase_step: a whole block where one fits, else a sector. Address and end stay two, as in `erase`.
+/// erase_step: a whole block where one fits, else a sector. Address and end stay two, as in `erase`.
 #[tactic(auto, unfolding(crate::specs::Transfer::step_kind, crate::specs::Transfer::multiple_of))]
 pub fn step_kind(device: NorDeviceInfo, address: u32, end: u32) -> EraseKind
     ensures { result ≡ step_kind device address end }
@@ -188,7 +190,7 @@ pub fn step_kind(device: NorDeviceInfo, address: u32, end: u32) -> EraseKind
     }
 }
 
-// erase_step's next address
+/// erase_step's next address
 #[tactic(auto, unfolding(crate::specs::Transfer::after_unit))]
 pub fn after_unit(device: NorDeviceInfo, kind: EraseKind, address: u32) -> u32
     ensures { result ≡ after_unit device kind address }
