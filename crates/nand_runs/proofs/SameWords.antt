@@ -15,6 +15,7 @@ use Rattle.spi_nand.proofs.Geometries.{geometries-hold}
 use Rattle.nand_steps.specs.Opening.{given_at}
 use Rattle.nand_steps.specs.Register.{geometry_at, geometry_for}
 use Rattle.nand_runs.specs.Rust.{resolved}
+use Rattle.nand_runs.specs.RustConfig.{from_jedec, looked_up}
 use Rattle.nand_runs.specs.SameWords.{SameIn, SameWords}
 use Rattle.nand_runs.proofs.Agrees.{pages-same, capacity-same, cache-size-same, first-page-same, in-cache-same, in-range-same, place-same, read-same, load-same, known-same}
 
@@ -40,7 +41,7 @@ held None id = sym (known-same id)
 held (Some own) id = refl
 
 pub same-words : SameWords
-unfolding cache_read_transfer cache_load_transfer jedec_id_of geometry_for
+unfolding cache_read_transfer cache_load_transfer jedec_id_of geometry_for from_jedec looked_up
 same-words = record {
   inside = inside;
   registers = λ register. refl;
@@ -57,6 +58,7 @@ same-words = record {
   geometries = λ id. sym (known-same id);
   w25n01gv = refl;
   w25n02kv = refl;
+  w25n01gv_known = refl;
   page_limit = refl;
   held = λ config id. held config.geometry id;
   quad_numbers = refl;

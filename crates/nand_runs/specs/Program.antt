@@ -51,43 +51,18 @@ rust_program flash (Call.MarkBadBlock block) b d = mark-bad-block flash block >>
 
 -- ---- the port's
 
--- "page above 4,096 NAND": a detected geometry has a page of 2,048
+-- the page is one that a construction takes; that of a detected geometry is 2,048
 abbrev pub page_taken : Option NandGeometry → Bool
 page_taken None = true
 page_taken (Some own) = leb own.page_size MAX-VERIFY-PAGE-SIZE
 
 -- a construction whose page is too large
 abbrev pub large_page : Call → Bool
-large_page Call.New = false
 large_page (Call.WithConfig config) = not (page_taken config.geometry)
-large_page Call.Info = false
-large_page Call.Config = false
-large_page Call.Geometry = false
-large_page Call.Free = false
-large_page Call.DisableQuad = false
-large_page (Call.WriteRegister register value) = false
-large_page Call.WriteEnable = false
-large_page Call.ReadStatus = false
-large_page Call.ReadConfiguration = false
-large_page Call.ReadProtection = false
-large_page Call.Reset = false
-large_page Call.JedecId = false
-large_page Call.ResetAndIdentify = false
-large_page Call.EnsureConfiguration = false
-large_page Call.Unprotect = false
-large_page (Call.PageRead page) = false
-large_page (Call.ReadCache column) = false
-large_page (Call.LoadProgramData column) = false
-large_page (Call.ProgramExecute page) = false
-large_page (Call.ReadPage page) = false
-large_page (Call.WritePage page) = false
-large_page (Call.EraseBlock block) = false
-large_page (Call.Read offset) = false
-large_page (Call.IsBadBlock block) = false
-large_page (Call.MarkBadBlock block) = false
+large_page call = false
 
--- it does what the Rust does, up to and with the identification; then 11, "found after identifying", where the Rust first goes on to
--- configure and unlock the part
+-- it does what the Rust does, up to and with the identification; then it fails with 11, where the Rust first goes on to configure and
+-- unlock the part (docs/DIFFERENCES.md)
 unfoldable pub refused-page : Prog Left
 refused-page = do
   transfer Transfer.Raise

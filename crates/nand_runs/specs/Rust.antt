@@ -3,8 +3,8 @@
 -- `RustConfig.antt`; page_address is in the commands of spi_nand.
 -- `transfer` is one select frame of the Rust (`command`, `command_then_read`, or a quad call between cs_low and cs_high) or one
 -- delay; a bus error in it ends the call, as `?` does. Their bus calls are in `OnBus.antt` of spi_flash.
--- Numbers neither wrap nor end here; inside the bounds the Rust's do neither (`NothingWraps.antt`), and the driver's own words for
--- these sums, pieces and tests come to the same (`SameWords.antt`).
+-- Sums and products are those of numbers without a largest; inside the bounds none of the Rust's wraps (`NothingWraps.antt`), and the
+-- driver's own words for these sums, pieces and tests come to the same (`SameWords.antt`).
 use Rattle.spi_nand.specs.declared.config.NandQuadConfig.{NandQuadConfig}
 use Rattle.std.specs.Prelude.{ℕ, zero, suc, ◌+◌, ◌-◌, ◌*◌, ◌/◌, ◌%◌, ◌^◌, min, Bool, true, false, not, ltb, leb, eqb, if◌then◌else◌, Option, Some, None}
 use Rattle.std.specs.Int.Bits.{bit_or}

@@ -8,6 +8,7 @@ use Rattle.spi_flash.specs.Number.{number_transfer}
 use Rattle.spi_nand.specs.Command.{read_id_command, get_feature_command}
 use Rattle.spi_nand.specs.Config as Config
 use Rattle.spi_nand.specs.Config.{in_bounds, jedec_id_of, block_size_of, page_count_of, capacity_of, cache_size_of, first_page_of, QUAD-W25N01GV, single_config, quad_config}
+use Rattle.spi_nand.specs.Datasheet as sheet
 use Rattle.spi_nand.specs.Transfer.{register_transfer, id_transfer, cache_read_transfer, cache_load_transfer, in_cache, in_range, place_of, page_at, column_at, chunk_of, filler_of}
 use Rattle.spi_nand.specs.declared.config.NandGeometry.{NandGeometry}
 use Rattle.spi_nand.specs.declared.config.NandJedecId.{NandJedecId}
@@ -53,6 +54,8 @@ pub record SameWords : Type 0 where
   pub geometries : (id : NandJedecId) → Config.from_jedec id ≡ from_jedec id
   pub w25n01gv : Config.W25N01GV ≡ W25N01GV
   pub w25n02kv : Config.W25N02KV ≡ W25N02KV
+  -- the three bytes of a W25N01GV's id give its geometry; those of a W25N02KV are no row of the Rust's table (docs/DIFFERENCES.md)
+  pub w25n01gv_known : from_jedec (id-of (number_of (sheet.identification sheet.w25n01gv))) ≡ W25N01GV
   -- fn with_config: the limit of a page, and the geometry once the id is read
   pub page_limit : Register.MAX-VERIFY-PAGE-SIZE ≡ MAX-VERIFY-PAGE-SIZE
   pub held : (config : SpiNandConfig) (id : NandJedecId) → geometry_for (fresh_setup config) id ≡ resolved config.geometry id

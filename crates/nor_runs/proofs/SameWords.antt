@@ -6,11 +6,12 @@ use mathlib.Core.Path.{◌≡◌, refl, sym}
 use mathlib.Core.List.{[], ◌∷◌}
 use Rattle.qspi.specs.Bytes.{number_of}
 use Rattle.spi_nor.specs.Transfer.{chunk_of, page_of, read_transfer, program_transfer}
+use Rattle.nor_runs.specs.RustConfig.{from_jedec, looked_up}
 use Rattle.nor_runs.specs.SameWords.{SameWords}
 use Rattle.nor_runs.proofs.Agrees.{range-same, multiple-same, place-same, read-same, program-same, step-same, known-same, constructed-same}
 
 pub same-words : SameWords
-unfolding chunk_of page_of read_transfer program_transfer
+unfolding chunk_of page_of read_transfer program_transfer from_jedec looked_up
 same-words = record {
   ranges = λ capacity offset n. sym (range-same capacity offset n);
   multiples = λ n unit. sym (multiple-same n unit);
@@ -38,6 +39,8 @@ same-words = record {
   devices = λ id. sym (known-same id);
   w25q64jv = refl;
   w25q128jv = refl;
+  w25q64jv_known = refl;
+  w25q128jv_known = refl;
   page_limit = refl;
   built = λ config v. sym (constructed-same config v);
   quad_numbers = refl;

@@ -2,8 +2,8 @@
 -- others stands behind them (with_config is last). config, device, id and free are in `Program.antt`, its config.rs in `RustConfig.antt`.
 -- `transfer` is one select frame of the Rust (`command`, `command_then_read`, or a quad call between cs_low and cs_high) or one
 -- delay; a bus error in it ends the call, as `?` does. Their bus calls are in `OnBus.antt` of spi_flash.
--- Numbers neither wrap nor end here; inside the bounds the Rust's do neither (`NothingWraps.antt`), and the driver's own words for
--- these sums, pieces and tests come to the same (`SameWords.antt`).
+-- Sums and products are those of numbers without a largest; inside the bounds none of the Rust's wraps (`NothingWraps.antt`), and the
+-- driver's own words for these sums, pieces and tests come to the same (`SameWords.antt`).
 use Rattle.spi_nor.specs.declared.config.NorDeviceInfo.{NorDeviceInfo}
 use Rattle.spi_nor.specs.declared.config.NorQuadConfig.{NorQuadConfig}
 use Rattle.std.specs.Prelude.{ℕ, zero, suc, ◌+◌, ◌-◌, ◌*◌, ◌/◌, ◌%◌, min, Bool, true, not, ◌&&◌, ◌==◌, ltb, leb, eqb, if◌then◌else◌, Option, Some, None}

@@ -8,6 +8,7 @@ use Rattle.spi_flash.specs.Range as Range
 use Rattle.spi_nor.specs.Command.{sector_erase_command, block_erase_command}
 use Rattle.spi_nor.specs.Config as Config
 use Rattle.spi_nor.specs.Config.{in_bounds_of, w25q64jv, w25q128jv, quad_w25q128jv, single_config, quad_config}
+use Rattle.spi_nor.specs.Datasheet as sheet
 use Rattle.spi_nor.specs.Opcode as Opcode
 use Rattle.spi_nor.specs.Transfer.{place_of, chunk_of, page_of, read_transfer, program_transfer, erase_transfer, erase_operation, multiple_of, unit_size, step_kind, after_unit}
 use Rattle.spi_nor.specs.declared.config.NorDeviceInfo.{NorDeviceInfo}
@@ -51,6 +52,9 @@ pub record SameWords : Type 0 where
   pub devices : (id : NorJedecId) → Config.from_jedec id ≡ from_jedec id
   pub w25q64jv : w25q64jv ≡ W25Q64JV
   pub w25q128jv : w25q128jv ≡ W25Q128JV
+  -- the three bytes of either part's id give its device
+  pub w25q64jv_known : from_jedec (id-of (number_of (sheet.winbond ∷ sheet.memory_type ∷ sheet.w25q64jv_code ∷ []))) ≡ W25Q64JV
+  pub w25q128jv_known : from_jedec (id-of (number_of (sheet.winbond ∷ sheet.memory_type ∷ sheet.w25q128jv_code ∷ []))) ≡ W25Q128JV
   -- fn with_config: the limit of a page, and the struct once the id is read
   pub page_limit : Register.MAX-VERIFY-PAGE-SIZE ≡ MAX-VERIFY-PAGE-SIZE
   pub built : (config : SpiNorConfig) (v : ℕ) → known_as (fresh_setup config) v ≡ constructed config (id-of v)
