@@ -19,12 +19,13 @@ use Rattle.spi_flash.specs.Run as Run
 use Rattle.spi_flash.specs.Run.{Event, Moved, System, Answer, Fitting, answering, Lending, at_once, goes_on, begun_with, run_of, call_of, delay_asked}
 use Rattle.spi_flash.specs.Seen.{Did, told_then, told, SameData, Undisturbed}
 use Rattle.spi_flash.specs.declared.loan.Takes.{Takes}
-use Rattle.flash_runs.specs.Driver.{Left, constructs, works_on, Driver, sort_at, takes_at, program_at, bound_at, run_at, steps_at, flash_after}
+use Rattle.flash_runs.specs.Driver.{Left, constructs, works_on, Driver, sort_at, takes_at, program_at, bound_at, ends_at, run_at, steps_at, flash_after}
 use Rattle.flash_runs.specs.Promises.{Promises}
 use Rattle.flash_runs.specs.Refusals.{out_then, is_out, out_after, ToldByHistory}
 use Rattle.flash_runs.specs.SameAsRust.{Regular, rust_call, left_by, SameAsRust}
-use Rattle.flash_runs.specs.Shams.{Asks, Subject, in_place, billing, Refuses, Succeeds, ForTheBus, ShamsFail}
-use Rattle.flash_runs.specs.WithinBound.{GivesAction, Begun, ComesTo, WithinBound}
+use Rattle.flash_runs.specs.Shams.{Asks, Subject, in_place, billing, ending, Refuses, Succeeds, ForTheBus, ShamsFail}
+use Rattle.flash_runs.specs.WithinBound.{GivesAction, Begun, ComesTo, EndsWell, WithinBound}
+use Rattle.flash_runs.specs.Watch.{succeeded_then, Succeeded}
 
 -- ---- a program that uses the bus gives out an action first
 
@@ -304,6 +305,41 @@ module _ {F C S A : Type 0} (driver : Driver F C S A) (G : Type 0) (call : C) (l
   other-comes : (bill : S → C → ℕ → ℕ → ℕ) (flash : F) (call : C) (l : Lent) {b : ℕ} → ComesTo (billing driver bill) flash call l b → ComesTo driver flash call l b
   other-comes bill flash call l to = record { replies = to.replies; real = to.real; fits = to.fits; asks = to.asks }
 
+  -- ---- good ends
+
+  -- a run that leaves something has succeeded
+  left-first : {left : Left S A} (g : Run.Given (Left S A)) (buffer : List ℕ) (xs : List (Run.Entry C (Left S A))) → (left_by (told xs) ≡ some left → Succeeded xs) →
+      left_by (told_then g buffer (told xs)) ≡ some left → succeeded_then g (Succeeded xs)
+  left-first (Run.act shown) buffer xs ih h = ih h
+  left-first (Run.ended a) buffer xs ih h = tt
+  left-first (Run.failed e) buffer xs ih h = none-left h
+  left-first (Run.refused e) buffer xs ih h = ih h
+
+  left-succeeds : {left : Left S A} (xs : List (Run.Entry C (Left S A))) → left_by (told xs) ≡ some left → Succeeded xs
+  unfolding told Succeeded
+  left-succeeds [] h = none-left h
+  left-succeeds (x ∷ xs) h = left-first x.given x.left.buffer xs (left-succeeds xs) h
+
+  -- a call does not both end well and never
+  both-ends : (flash : F) (call : C) (l : Lent) → ready_for (takes_at driver call l) l ≡ true → EndsWell driver flash call l →
+      ((es : List (Event C)) → Succeeded (run_at driver flash call l es) → ⊥) → ⊥
+  both-ends flash call l ready well never =
+      let ls = again well.replies l in
+      never (answering well.replies ls) (left-succeeds _ (well.ends ls (again-length well.replies l) (again-lends well.replies (takes_at driver call l) l ready)))
+
+  -- a run does not look at which calls can end well
+  other-ends : (can : S → C → ℕ → ℕ → Bool) (flash : F) (call : C) (l : Lent) → EndsWell (ending driver can) flash call l → EndsWell driver flash call l
+  other-ends can flash call l well =
+      record { left = well.left; replies = well.replies; real = well.real; fits = well.fits; ends = well.ends; as_rust = well.as_rust }
+
+  same-ends : (flash : F) (call : C) (l : Lent) (a b : Bool) → (a ≡ true → EndsWell driver flash call l) → (a ≡ false → (es : List (Event C)) → Succeeded (run_at driver flash call l es) → ⊥) →
+      (b ≡ true → EndsWell driver flash call l) → (b ≡ false → (es : List (Event C)) → Succeeded (run_at driver flash call l es) → ⊥) →
+      ready_for (takes_at driver call l) l ≡ true → a ≡ b
+  same-ends flash call l true true e n e' n' ready = refl
+  same-ends flash call l false false e n e' n' ready = refl
+  same-ends flash call l true false e n e' n' ready = absurd (both-ends flash call l ready (e refl) (n' refl))
+  same-ends flash call l false true e n e' n' ready = absurd (both-ends flash call l ready (e' refl) (n refl))
+
   pub shams-fail : WithinBound driver → ShamsFail driver G
   shams-fail kept = record {
     refusing = λ sham h history same. refuses-none sham _ (h sham.fresh call l) (begins sham history same);
@@ -316,4 +352,8 @@ module _ {F C S A : Type 0} (driver : Driver F C S A) (G : Type 0) (call : C) (l
         let most = within flash call l (bound_at (billing driver bill) flash call l) ready (other-comes bill flash call l (other.reached flash call l bytes begun)) (bound_at driver flash call l) (kept.bounded flash call l) in
         let least = within flash call l (bound_at driver flash call l) ready (kept.reached flash call l bytes begun) (bound_at (billing driver bill) flash call l) (other.bounded flash call l) in
         omega (arith, most, least);
+    endings = λ can other flash call l bytes ready begun.
+        same-ends flash call l (ends_at (ending driver can) flash call l) (ends_at driver flash call l)
+        (λ h. other-ends can flash call l (other.ends_well flash call l bytes begun h)) (λ h es. other.never_ends flash call l es h)
+        (λ h. kept.ends_well flash call l bytes begun h) (λ h es. kept.never_ends flash call l es h) ready;
   }

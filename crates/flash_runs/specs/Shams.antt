@@ -6,7 +6,7 @@ use Rattle.qspi.specs.Bytes.{AllBytes}
 use Rattle.spi_flash.specs.Loan.{Lent, ready_for}
 use Rattle.spi_flash.specs.Prog.{Prog, ask}
 use Rattle.spi_flash.specs.Run.{Event, Given, act, ended, failed, refused, Moved, System}
-use Rattle.flash_runs.specs.Driver.{Left, leaving, Driver, takes_at, program_at, bound_at, flash_after}
+use Rattle.flash_runs.specs.Driver.{Left, leaving, Driver, takes_at, program_at, bound_at, ends_at, flash_after}
 use Rattle.flash_runs.specs.Promises.{Promises}
 use Rattle.flash_runs.specs.Refusals.{ToldByHistory}
 use Rattle.flash_runs.specs.SameAsRust.{Usable, SameAsRust}
@@ -52,7 +52,11 @@ module _ {F C S A : Type 0} (driver : Driver F C S A) where
   abbrev pub billing : (S → C → ℕ → ℕ → ℕ) → Driver F C S A
   billing bound = record driver { delay_bound = bound }
 
-  -- the driver, but for what each of its steps comes to
+  -- but for which calls it says can end well
+  abbrev pub ending : (S → C → ℕ → ℕ → Bool) → Driver F C S A
+  ending can = record driver { can_end = can }
+
+  -- but for what each of its steps comes to
   abbrev pub altered : (Moved F (Left S A) → Moved F (Left S A)) → Driver F C S A
   altered f =
       record driver {
@@ -114,3 +118,6 @@ pub record ShamsFail {F C S A : Type 0} (driver : Driver F C S A) (G : Type 0) :
   -- a bound that is no sum of the delays given out: no other is kept and reached
   pub bills : (bound : S → C → ℕ → ℕ → ℕ) → WithinBound (billing driver bound) → (flash : F) (call : C) (l : Lent) → AllBytes l.given →
       ready_for (takes_at driver call l) l ≡ true → Begun driver flash call l → bound_at (billing driver bound) flash call l ≡ bound_at driver flash call l
+  -- a good end that is promised where there is none, or denied where there is one
+  pub endings : (can : S → C → ℕ → ℕ → Bool) → WithinBound (ending driver can) → (flash : F) (call : C) (l : Lent) → AllBytes l.given →
+      ready_for (takes_at driver call l) l ≡ true → Begun driver flash call l → ends_at (ending driver can) flash call l ≡ ends_at driver flash call l
