@@ -2,12 +2,10 @@
 use Prim.Native.Nat.{ℕ}
 use mathlib.Core.Bool.{Bool, true, false}
 use mathlib.Core.Path.{◌≡◌, refl, ap, sym, ◌∙◌, subst}
-use mathlib.Core.List.{List, []}
+use mathlib.Core.List.{List}
 use lib.ListN.{length, take}
-use lib.Dec.{ltb}
 use Rattle.std.specs.Prelude.{Result, Ok, Err}
 use Rattle.qspi.specs.Choice.{pick}
-use Rattle.qspi.specs.Command.{scratch_least}
 use Rattle.spi_flash.specs.Entry.{entry_of}
 use Rattle.spi_flash.specs.Beginning as Beginning
 use Rattle.spi_flash.specs.Settling as Settling
@@ -18,8 +16,8 @@ use Rattle.spi_flash.specs.Seen.{unless_refused}
 use Rattle.spi_flash.specs.declared.error.FlashError.{FlashError}
 use Rattle.spi_flash.specs.declared.loan.Takes.{Takes}
 use Rattle.spi_flash.proofs.Performs.{first-shown}
-use Rattle.flash_runs.specs.Begins.{short_scratch, SameTaken, SameLooked, SameStep, first_delivered}
-use Rattle.flash_runs.specs.Driver.{Left, Sort, constructs, tells, releases, uses, Driver, sort_at, takes_at}
+use Rattle.flash_runs.specs.Begins.{short_scratch, SameLooked, SameStep, first_delivered}
+use Rattle.flash_runs.specs.Driver.{Left, Sort, constructs, tells, releases, uses, Driver, sort_at}
 use Rattle.flash_runs.specs.System.{left_with}
 use Rattle.flash_runs.proofs.General as General
 use Rattle.flash_runs.proofs.General.{Then, Opening, constructing, telling, releasing, working, Parts, Running, idle, busy, Flash, flash_of, Stepped, plain, calls_of, general}

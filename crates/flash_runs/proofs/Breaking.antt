@@ -7,7 +7,7 @@ use mathlib.Core.Path.{◌≡◌, refl}
 use mathlib.Core.List.{List, [], ◌∷◌}
 use lib.ListN.{length}
 use Rattle.qspi.specs.Bus.{fits_of}
-use Rattle.qspi.specs.Frame.{Outcome, first_of, action_of, frame_at, advanced_of, taken_in, gave, given_scratch, exchange_of}
+use Rattle.qspi.specs.Frame.{Outcome, first_of, action_of, frame_at, advanced_of, taken_in, gave, exchange_of}
 use Rattle.qspi.specs.declared.bus.BusError.{BusError}
 use Rattle.qspi.specs.declared.bus.Reply.{Reply}
 use Rattle.qspi.specs.declared.transfer.Transfer.{Transfer}
@@ -22,7 +22,7 @@ use Rattle.spi_flash.specs.Seen.{unless_refused, Taken}
 use Rattle.spi_flash.specs.declared.error.FlashError.{FlashError}
 use Rattle.spi_flash.specs.declared.loan.Takes.{Takes}
 use Rattle.spi_flash.proofs.OnBus.{false≢true}
-use Rattle.flash_runs.specs.Watch.{error_at, error_in, BreaksOff, StopsOnError}
+use Rattle.flash_runs.specs.Watch.{error_at, BreaksOff, StopsOnError}
 
 -- while select goes high behind an error, the transfer has come to it
 abbrev Due : Option ℕ → Stage → Outcome → Type 0

@@ -1,9 +1,8 @@
 -- A driver that is built holds what its construction judged.
 use Prim.Native.Nat.{ℕ, ◌≤◌}
-use native.Mathlib.Omega.{arith}
 use mathlib.Core.Bool.{Bool, true, false}
 use mathlib.Core.Logic.{◌⊎◌, inl, inr}
-use mathlib.Core.Option.{Option, some, none}
+use mathlib.Core.Option.{some, none}
 use mathlib.Core.Path.{◌≡◌, refl, ap, sym, ◌∙◌, subst}
 use mathlib.Core.List.{List, [], ◌∷◌, map}
 use lib.ListN.{length}
@@ -23,8 +22,8 @@ use Rattle.spi_flash.specs.Seen.{gives_of}
 use Rattle.spi_flash.specs.declared.loan.Takes.{Takes}
 use Rattle.qspi.proofs.Cases.{by_cases, keeps-pick}
 use Rattle.flash_runs.specs.Built.{after_turns, GivenInside, Asked, BuiltInside}
-use Rattle.flash_runs.specs.Driver.{Left, Sort, constructs, tells, releases, uses, works_on, Driver, sort_at, flash_after}
-use Rattle.flash_runs.specs.SameAsRust.{Turn, Ready, Steady, turn_after, EachTurn, each_turn, accepted_turn, turn_gives, rust_session, driver_of}
+use Rattle.flash_runs.specs.Driver.{Left, Sort, constructs, tells, releases, uses, works_on, Driver, sort_at}
+use Rattle.flash_runs.specs.SameAsRust.{Turn, Ready, Steady, turn_after, EachTurn, each_turn, accepted_turn, rust_session, driver_of}
 use Rattle.flash_runs.proofs.General as General
 use Rattle.flash_runs.proofs.General.{Then, Opening, constructing, telling, releasing, working, Parts, Job, Running, idle, busy, is_busy, Flash, flash_of, Place, place, settled, opened, general, opened_as, begin_at, answer_at, proceeds}
 use Rattle.flash_runs.proofs.Supplies.{Stays, OpensAs, Known}

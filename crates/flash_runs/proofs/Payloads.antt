@@ -1,9 +1,8 @@
 -- What a program gives out behind its commands, over all its paths.
 use Prim.Native.Nat.{ℕ, ◌≤◌}
 use native.Mathlib.Omega.{arith}
-use mathlib.Core.Bool.{true}
-use mathlib.Core.Path.{◌≡◌, refl}
-use mathlib.Core.List.{List, [], ◌∷◌}
+use mathlib.Core.Path.{◌≡◌}
+use mathlib.Core.List.{[], ◌∷◌}
 use Rattle.qspi.specs.Bytes.{filler_length}
 use Rattle.qspi.specs.declared.transfer.Payload.{Payload}
 use Rattle.qspi.specs.declared.transfer.Body.{Body}
@@ -11,7 +10,7 @@ use Rattle.qspi.specs.declared.transfer.Transfer.{Transfer}
 use Rattle.spi_flash.specs.Path.{Bounded}
 use Rattle.spi_flash.specs.Prog.{Prog, ret, fail, ask, ◌>>=◌, ◌>>◌}
 use Rattle.spi_flash.proofs.Unread.{none_first, none-later}
-use Rattle.flash_runs.specs.Scratch.{Stamp, filler, marker, Payloads, callers, stamps}
+use Rattle.flash_runs.specs.Scratch.{filler, marker, Payloads, callers, stamps}
 
 -- the next of the payloads is this one, and the rest comes later
 abbrev pub PaysBy : Payloads → Payload → (Payloads → Type 0) → Type 0

@@ -1,6 +1,6 @@
 -- What is put into the scratch, over every run of the machine: the bytes that a step gives out, at their places, and behind commands what
 -- the program has to give out.
-use Rattle.std.specs.Prelude.{Option, Some, None, Ok, Err}
+use Rattle.std.specs.Prelude.{Ok, Err}
 use Prim.Native.Nat.{ℕ, ◌≤◌}
 use mathlib.Core.Bool.{true}
 use mathlib.Core.Path.{◌≡◌, refl, sym, subst}
@@ -9,12 +9,12 @@ use lib.ListN.{length}
 use lib.Seq.{length-sets}
 use borrow.Author.Tests.{le-leb}
 use Rattle.qspi.specs.Bus.{fits_of}
-use Rattle.qspi.specs.Bytes.{filler_length, with_filler, with_marker}
+use Rattle.qspi.specs.Bytes.{with_filler, with_marker}
 use Rattle.qspi.specs.Command as Command
 use Rattle.qspi.specs.Command.{command_bytes, scratch_least}
 use Rattle.qspi.proofs.Cases.{by_cases}
 use Rattle.qspi.proofs.Filler.{filler-most}
-use Rattle.qspi.specs.Frame.{Outcome, first_of, action_of, next_stage, value_of, sink_of, frame_at, moved_on, advanced_at, advanced_of, taken_in, gave, exchange_of, with_payload, scratch_at, given_scratch}
+use Rattle.qspi.specs.Frame.{Outcome, first_of, action_of, next_stage, frame_at, moved_on, advanced_at, advanced_of, taken_in, gave, exchange_of, with_payload, scratch_at, given_scratch}
 use Rattle.qspi.specs.ShownBytes.{payload_bytes, start_shown, shown_at}
 use Rattle.qspi.proofs.Sent.{shown-bytes}
 use Rattle.qspi.specs.declared.bus.Reply.{Reply}

@@ -6,7 +6,7 @@ use Rattle.std.proofs.Math.Seq.{paste}
 use Rattle.qspi.specs.Bytes.{part_of}
 use Rattle.qspi.specs.Shown.{Shown, low, high, write, read, quad_read, quad_write, delay}
 use Rattle.spi_flash.specs.Loan.{Lent}
-use Rattle.spi_flash.specs.Run.{Given, act, ended, failed, refused, Entry}
+use Rattle.spi_flash.specs.Run.{Given, act, Entry}
 use Rattle.spi_flash.specs.Seen.{lent_to}
 use Rattle.spi_flash.specs.declared.loan.Takes.{Takes}
 use Rattle.flash_runs.specs.Watch.{BusFrame, closed, selected, commanded, frame_after}
