@@ -1,6 +1,6 @@
 -- What the NAND's calls deliver of what the chip holds, where the chip answers each read of its cache with what it holds at the place that
 -- the bytes on the bus asked for (docs/SPECIFICATION.md, "Reads on the bus").
-use Rattle.std.specs.Prelude.{ℕ, true, ◌≡◌, List, [], ◌∷◌, length, take}
+use Rattle.std.specs.Prelude.{ℕ, ◌/◌, ◌%◌, true, ◌≡◌, List, [], ◌∷◌, length, take}
 use Rattle.std.proofs.Math.Option.{Option, none, some}
 use Rattle.spi_flash.specs.Loan.{Lent}
 use Rattle.spi_flash.specs.Run.{Event, reply, call, Entry}
@@ -9,7 +9,6 @@ use Rattle.flash_runs.specs.Contents.{contents_from, Delivers}
 use Rattle.flash_runs.specs.Driver.{Driver, run_at, steps_at, flash_after}
 use Rattle.flash_runs.specs.Reading.{data_at}
 use Rattle.flash_runs.specs.Watch.{Watcher, sees, watched, Succeeded}
-use Rattle.spi_nand.specs.Transfer.{page_at, column_at}
 use Rattle.spi_nand.specs.declared.answer.Answer.{Answer}
 use Rattle.spi_nand.specs.declared.call.Call.{Call}
 use Rattle.spi_nand.specs.declared.config.NandGeometry.{NandGeometry}
@@ -26,7 +25,7 @@ Chip = ℕ → ℕ → ℕ
 
 -- the byte at an address
 abbrev pub byte_at : NandGeometry → Chip → ℕ → ℕ
-byte_at g chip address = chip (page_at g address) (column_at g address)
+byte_at g chip address = chip (address / g.page_size) (address % g.page_size)
 
 -- the page in its cache: the last that was loaded, whether or not its verdict has come
 abbrev pub cached_page : Load → Option ℕ

@@ -1,11 +1,10 @@
 -- What holds of every run of a NAND `read`, as it is seen from outside (docs/SPECIFICATION.md, "Reads on the bus").
-use Rattle.std.specs.Prelude.{ℕ, zero, suc, ◌*◌, ◌≤◌, true, false, ◌≡◌, List, [], ◌∷◌, length, eqb}
+use Rattle.std.specs.Prelude.{ℕ, zero, suc, ◌*◌, ◌/◌, ◌%◌, ◌≤◌, true, false, ◌≡◌, List, [], ◌∷◌, length, eqb}
 use Rattle.spi_flash.specs.Path.{Prefix}
 use Rattle.spi_flash.specs.Run.{Entry, delay_asked}
 use Rattle.flash_runs.specs.Reading.{bytes_read}
 use Rattle.flash_runs.specs.Watch.{watched, Succeeded}
 use Rattle.spi_nand.specs.declared.config.NandGeometry.{NandGeometry}
-use Rattle.spi_nand.specs.Transfer.{page_at, column_at}
 use Rattle.nand_runs.specs.Bound.{first_touched, pages_touched}
 use Rattle.nand_runs.specs.Observer.{reads_cache, ReadByte, read_byte, Sight, unseen, observer}
 
@@ -21,7 +20,7 @@ touched g offset len = up_from (first_touched g offset) (pages_touched g offset 
 -- bytes from an address on, each with its page and its column
 abbrev pub placed : NandGeometry → ℕ → List ℕ → List ReadByte
 placed g address [] = []
-placed g address (b ∷ bytes) = read_byte (page_at g address) (column_at g address) b ∷ placed g (suc address) bytes
+placed g address (b ∷ bytes) = read_byte (address / g.page_size) (address % g.page_size) b ∷ placed g (suc address) bytes
 
 -- no verdict is 2
 abbrev pub NoneUncorrectable : List ℕ → Type 0
