@@ -7,6 +7,7 @@ use mathlib.Core.List.{List, [], ◌∷◌, ◌++◌}
 use lib.ListN.{length}
 use lib.Dec.{eqb}
 use Rattle.qspi.specs.Shown.{Shown, low, high, write}
+use Rattle.spi_flash.specs.Loan.{Lent}
 use Rattle.spi_flash.specs.Run.{Event, reply, act, entry, goes_on, run_of, call_of, delay_asked}
 use Rattle.flash_runs.specs.Driver.{run_at, steps_at}
 use Rattle.flash_runs.specs.Contents.{contents_from}
@@ -71,6 +72,18 @@ lawful =
         in_order = refl;
         whole = λ e. record { loads = refl; verdicts = refl; correctable = (refl, (refl, tt)); filled = refl; least = omega arith; most = omega arith };
       };
+      second-data = record {
+        loads = record { rest = []; whole = refl };
+        reads = refl;
+        in_order = refl;
+        whole = λ e. record { loads = refl; verdicts = refl; correctable = (refl, (refl, tt)); filled = refl; least = omega arith; most = omega arith };
+      };
+      unselected-data = record {
+        loads = record { rest = []; whole = refl };
+        reads = refl;
+        in_order = refl;
+        whole = λ e. record { loads = refl; verdicts = refl; correctable = (refl, (refl, tt)); filled = refl; least = omega arith; most = omega arith };
+      };
     }
 
 page-is-0 : List ReadByte → Bool
@@ -97,6 +110,9 @@ ruled = record {
   second-command = λ h. true≢false (ap (λ xs. eqb (length xs) 1) h.reads);
   unselected-look = λ h. true≢false (ap (λ xs. eqb (length xs) 1) h.reads);
   look-behind = λ h. true≢false (ap (λ xs. eqb (length xs) 1) h.reads);
+  overwritten-cache = λ h. true≢false (ap (λ xs. eqb (length xs) 1) h.reads);
+  quad-overwritten-cache = λ h. true≢false (ap (λ xs. eqb (length xs) 1) h.reads);
+  programmed-cache = λ h. true≢false (ap (λ xs. eqb (length xs) 1) h.reads);
   uncorrectable-delivered = λ h. true≢false (h.whole tt).correctable.0;
   second-opinion = λ h. true≢false (h.whole tt).correctable.0;
   other-column = λ h. true≢false (ap (λ xs. eqb (first_byte xs).column 0) h.reads);
@@ -157,6 +173,21 @@ no-page-written : DeliversTheChip (actor []) → ⊥
 unfolding watched Succeeded call_of goes_on
 no-page-written kept = true≢false (ap (λ xs. eqb (length xs) 0) (kept.write_page at_rest 0 two_places [] tt).loads)
 
+one_byte : Lent
+one_byte = record { scratch = []; buffer = []; given = 7 ∷ [] }
+
+replies : List Exchange → List (Event Call)
+replies [] = []
+replies (x ∷ xs) = reply x.kind x.bytes one_byte ∷ replies xs
+
+unequal-found : DeliversTheChip (actor (actions_in Shams.unequal)) → ⊥
+unfolding watched Succeeded call_of goes_on replies one_byte
+unequal-found kept = true≢false (ap (λ xs. eqb (first_byte xs).value 8) (kept.write_page at_rest 0 one_byte (replies Shams.unequal) tt).reads)
+
+stale-found : DeliversTheChip (actor (actions_in Shams.stale)) → ⊥
+unfolding watched Succeeded call_of goes_on replies one_byte
+stale-found kept = true≢false (ap (λ xs. eqb (length xs) 0) (kept.write_page at_rest 0 one_byte (replies Shams.stale) tt).reads)
+
 chips : ChipsTold
 unfolding watched FromChip
 chips = record {
@@ -166,6 +197,8 @@ chips = record {
   unlooked = λ chip h. sym (ap first h.1.1.1.1.1.1.1.0);
   load-skipped = skipped;
   no-traffic = no-page-written;
+  unequal-data = unequal-found;
+  stale-cache = stale-found;
 }
 
 pub shams-ruled-out : ShamsRuledOut

@@ -3,10 +3,10 @@
 use Rattle.std.specs.Prelude.{ℕ, suc, ◌/◌, ◌%◌, ◌^◌, Bool, true, false, ◌&&◌, ◌==◌, if◌then◌else◌, List, [], ◌∷◌, ◌++◌, length, take, leb}
 use Rattle.std.proofs.Math.Option.{Option, none, some}
 use Rattle.qspi.specs.Address.{read_from}
-use Rattle.qspi.specs.Shown.{Shown, write, read, quad_read}
+use Rattle.qspi.specs.Shown.{Shown, write, read, quad_read, quad_write}
 use Rattle.spi_flash.specs.Bits.{is_clear}
 use Rattle.flash_runs.specs.Watch.{Watcher, BusFrame, closed, selected, frame_after, command_in}
-use Rattle.spi_nand.specs.Opcode.{GET-FEATURE, REG-STATUS, PAGE-READ, PROGRAM-EXECUTE, READ-CACHE}
+use Rattle.spi_nand.specs.Opcode.{GET-FEATURE, REG-STATUS, PAGE-READ, LOAD-PROGRAM-DATA, PROGRAM-EXECUTE, READ-CACHE}
 
 -- ---- what a command is, by its bytes
 
@@ -32,7 +32,7 @@ column_of (opcode ∷ address) = read_from 0 (take 2 address)
 
 -- ---- what is seen
 
--- the last load: none; or its page, while it is waited for, once the wait is over, and once the verdict has come
+-- the last load, while the cache holds it: none; or its page, while it is waited for, once the wait is over, and once the verdict has come
 pub data Load : Type 0 where
   unloaded : Load
   waiting waited judged : ℕ → Load
@@ -90,10 +90,21 @@ load_by shown s = page_in PAGE-READ s.frame (written_by shown)
 abbrev pub program_by : Shown → Sight → Option ℕ
 program_by shown s = page_in PROGRAM-EXECUTE s.frame (written_by shown)
 
--- with a load its wait begins
-abbrev pub last_load : Option ℕ → Load → Load
-last_load none load = load
-last_load (some page) load = waiting page
+-- the caller's data go to the cache: by 02, or by a quad write, whose opcode is the caller's own
+abbrev pub loads_data : List ℕ → Bool
+loads_data [] = false
+loads_data (opcode ∷ address) = opcode == LOAD-PROGRAM-DATA
+
+abbrev pub writes_cache : Shown → BusFrame → Bool
+writes_cache (write bytes) selected = loads_data bytes
+writes_cache (quad_write command payload) frame = true
+writes_cache _ _ = false
+
+-- with a load its wait begins; behind a program, and once data have gone to it, the cache holds no page that was loaded
+abbrev pub last_load : (loaded programmed : Option ℕ) → (written : Bool) → Load → Load
+last_load (some page) _ written load = waiting page
+last_load none (some page) written load = unloaded
+last_load none none written load = if written then unloaded else load
 
 abbrev pub with_page : Option ℕ → List ℕ → List ℕ
 with_page none pages = pages
@@ -116,7 +127,7 @@ given_out shown s =
     record {
       frame = frame_after shown s.frame;
       awaited = awaited_by shown s;
-      load = last_load (load_by shown s) s.load;
+      load = last_load (load_by shown s) (program_by shown s) (writes_cache shown s.frame) s.load;
       loads = with_page (load_by shown s) s.loads;
       verdicts = s.verdicts;
       reads = s.reads;

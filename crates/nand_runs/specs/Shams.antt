@@ -2,7 +2,7 @@
 -- W25N01GV: the last byte of page 0 and the first of page 1. `ReadSeen` allows the run of a true driver, and none of the shams. Each
 -- lawful run beside a sham differs from it in one thing, so that every part of the observer is needed to tell them apart.
 use Rattle.std.specs.Prelude.{ℕ, Bool, true, false, ◌≡◌, ◌==◌, if◌then◌else◌, List, [], ◌∷◌, ◌++◌}
-use Rattle.qspi.specs.Shown.{Shown, low, high, write, read, delay}
+use Rattle.qspi.specs.Shown.{Shown, low, high, write, read, quad_write, delay}
 use Rattle.qspi.specs.declared.bus.Reply.{Reply}
 use Rattle.spi_flash.specs.Loan.{Lent}
 use Rattle.spi_flash.specs.Run.{Event, reply, call, Given, act, ended, refused, Entry, Moved}
@@ -10,7 +10,7 @@ use Rattle.spi_flash.specs.declared.error.FlashError.{FlashError}
 use Rattle.flash_runs.specs.Driver.{leaving, Driver}
 use Rattle.flash_runs.specs.Shams.{in_place}
 use Rattle.spi_nand.specs.Config.{W25N01GV, single_config}
-use Rattle.spi_nand.specs.Opcode.{GET-FEATURE, REG-STATUS, REG-CONFIGURATION, PAGE-READ, READ-CACHE, LOAD-PROGRAM-DATA}
+use Rattle.spi_nand.specs.Opcode.{GET-FEATURE, REG-STATUS, REG-CONFIGURATION, PAGE-READ, READ-CACHE, LOAD-PROGRAM-DATA, QUAD-LOAD-PROGRAM-DATA, PROGRAM-EXECUTE}
 use Rattle.spi_nand.specs.declared.answer.Answer.{Answer}
 use Rattle.spi_nand.specs.declared.call.Call.{Call}
 use Rattle.spi_nand.specs.declared.setup.Setup.{Setup}
@@ -85,6 +85,9 @@ paused us = done (delay us) ∷ []
 abbrev pub status : ℕ → List Exchange
 status byte = asked (GET-FEATURE ∷ REG-STATUS ∷ []) (byte ∷ []) 1
 
+abbrev pub programmed : List Exchange
+programmed = command (PROGRAM-EXECUTE ∷ 0 ∷ 0 ∷ 0 ∷ [])
+
 -- page 0 is read at column 2,047, page 1 at column 0
 abbrev pub last_byte : List Exchange
 last_byte = asked (READ-CACHE ∷ 7 ∷ 255 ∷ 0 ∷ []) (161 ∷ []) 1
@@ -123,7 +126,27 @@ looked_before = claimed (status 32 ++ status 32 ++ page_0 ++ page_1)
 abbrev pub wait_is_no_verdict : List Seen
 wait_is_no_verdict = claimed (load 0 ++ paused 10 ++ status 32 ++ status 0 ++ last_byte ++ page_1)
 
+-- a write that begins with 02 goes to the cache only where it is a frame's first
+abbrev pub before_copy : List Exchange → List Seen
+before_copy own = claimed (loaded 0 0 ++ own ++ last_byte ++ page_1)
+
+abbrev pub second_data : List Seen
+second_data = before_copy (done low ∷ done (write (GET-FEATURE ∷ REG-CONFIGURATION ∷ [])) ∷ done (write (LOAD-PROGRAM-DATA ∷ 0 ∷ 0 ∷ [])) ∷ done high ∷ [])
+
+abbrev pub unselected_data : List Seen
+unselected_data = before_copy (done (write (LOAD-PROGRAM-DATA ∷ 0 ∷ 0 ∷ [])) ∷ [])
+
 -- ---- shams
+
+-- data sent to the cache between a page's verdict and its copy, by one line or four; a program there
+abbrev pub overwritten : List Seen
+overwritten = before_copy (command (LOAD-PROGRAM-DATA ∷ 0 ∷ 0 ∷ []))
+
+abbrev pub quad_overwritten : List Seen
+quad_overwritten = before_copy (done low ∷ done (quad_write (QUAD-LOAD-PROGRAM-DATA ∷ 0 ∷ 0 ∷ []) (161 ∷ [])) ∷ done high ∷ [])
+
+abbrev pub programmed_between : List Seen
+programmed_between = before_copy programmed
 
 -- success without traffic
 abbrev pub no_traffic : List Seen
@@ -278,6 +301,8 @@ pub record LawfulRuns : Type 0 where
   pub looked-again : Allowed looked_again
   pub looked-before : Allowed looked_before
   pub wait-is-no-verdict : Allowed wait_is_no_verdict
+  pub second-data : Allowed second_data
+  pub unselected-data : Allowed unselected_data
 
 pub record ShamRuns : Type 0 where
   pub no-traffic : Ruled no_traffic
@@ -298,6 +323,9 @@ pub record ShamRuns : Type 0 where
   pub second-command : Ruled second_command
   pub unselected-look : Ruled unselected_look
   pub look-behind : Ruled look_behind
+  pub overwritten-cache : Ruled overwritten
+  pub quad-overwritten-cache : Ruled quad_overwritten
+  pub programmed-cache : Ruled programmed_between
   pub uncorrectable-delivered : Ruled uncorrectable
   pub second-opinion : Ruled second_opinion
   pub other-column : Ruled other_column
@@ -310,6 +338,16 @@ pub record ShamRuns : Type 0 where
 abbrev pub holding : (last first : ℕ) → (other : ℕ) → Chip
 holding last first other page column = if page == 0 then (if column == 2047 then last else other) else first
 
+-- a write of page 0 with one byte of data, 7: it reads back another; or it reads back what it has sent to the cache, and not the page
+abbrev pub read_back : ℕ → List Exchange
+read_back byte = asked (READ-CACHE ∷ 0 ∷ 0 ∷ 0 ∷ []) (byte ∷ []) 1
+
+abbrev pub unequal : List Exchange
+unequal = programmed ++ loaded 0 0 ++ read_back 8
+
+abbrev pub stale : List Exchange
+stale = loaded 0 0 ++ programmed ++ read_back 7
+
 pub record ChipsTold : Type 0 where
   -- a chip has answered so, and every chip that has holds these bytes at the places that were asked for
   pub answers : FromChip (holding 161 178 0) unseen true_run
@@ -321,6 +359,9 @@ pub record ChipsTold : Type 0 where
   pub load-skipped : DeliversTheChip (actor (actions_in (page_0 ++ first_byte))) → ⊥
   -- one that claims success without traffic has written no page
   pub no-traffic : DeliversTheChip (actor []) → ⊥
+  -- nor one that goes on with other data than it was lent, or does not load the page again
+  pub unequal-data : DeliversTheChip (actor (actions_in unequal)) → ⊥
+  pub stale-cache : DeliversTheChip (actor (actions_in stale)) → ⊥
 
 pub record ShamsRuledOut : Type 0 where
   pub lawful : LawfulRuns
