@@ -1,4 +1,4 @@
-// A driver as a machine that the host steps: what both drivers do alike, over what each part of flash has of its own.
+//! A driver as a machine that the host steps: what both drivers do alike, over what each part of flash has of its own.
 #![tactic(auto)]
 
 ghost use Rattle.machine.specs.Number.{NumbersAgree};

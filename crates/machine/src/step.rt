@@ -63,7 +63,7 @@ pub fn step<D: Part>(flash: FlashOf<D>, reply: Reply, bytes: &[u8], lent: &mut L
 }
 
 impl<S: Copy, P: Copy> Flash<S, P> {
-    // The delivered beginning of the caller's buffer, as that part of it: the bytes that the last call begun has read.
+    /// The beginning of the caller's buffer that holds the bytes read by the last call begun, as that part of the buffer itself.
     pub fn delivered(self, buffer: &[u8]) -> &[u8]
         ensures { result.now ≡ take self.delivered buffer.now }
     {

@@ -1,5 +1,5 @@
-// SpiNandFlash (nand/driver.rs) as a machine that the host steps: each bus call of the Rust is an action given out. And what
-// follows each transfer.
+//! SpiNandFlash (nand/driver.rs) as a machine that the host steps: each bus call of the Rust is an action given out. And what
+//! follows each transfer.
 #![tactic(auto)]
 
 pub mod named;

@@ -35,7 +35,7 @@ ask_id setup bring_up = go_to setup id_transfer (Phase.Asking (Asked.Id bring_up
 abbrev pub look : Setup → Phase → Then
 look setup phase = go_to setup (register_transfer REG-STATUS) phase
 
--- "A load's verdict is that of the status read after its wait has ended", and likewise a program's and an erase's
+-- the status behind a wait, which has the verdict of a load, a program or an erase (docs/SPECIFICATION.md, "Registers")
 abbrev pub verdict : Setup → Task → Then
 verdict setup task = look setup (Phase.Waiting task WaitStep.Verdict)
 

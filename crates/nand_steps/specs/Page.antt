@@ -29,7 +29,7 @@ load_then setup page why = send setup (page_read_command page) (Task.Load why)
 unfoldable pub page_read_then : Setup → ℕ → LoadFor → Then
 page_read_then setup page why = within (ltb page (page_count_of setup.geometry)) (load_then setup page why)
 
--- "One 5 comes after traffic: spare 0 lets `is_bad_block` load the page first"
+-- the page is loaded ahead of the test of its column, which fails where there are no spare bytes (docs/SPECIFICATION.md, "Refusals and numbers")
 unfoldable pub is_bad_then : Setup → ℕ → MarkerFor → Then
 is_bad_then setup block why =
     within (ltb block setup.geometry.block_count) (load_then setup (first_page_of setup.geometry block) (LoadFor.Marker why))
@@ -42,7 +42,7 @@ accepted_then setup LoadFor.Verify = whole_then setup (Sink.Compare 0) Phase.Com
 accepted_then setup (LoadFor.Marker why) = read_marker_then setup why
 accepted_then setup (LoadFor.Read s) = piece_then setup s.offset s.len s.done
 
--- "A load's verdict is that of the status read after its wait has ended"
+-- a load is judged by the status behind its wait (docs/SPECIFICATION.md, "Registers")
 unfoldable pub loaded_then : Setup → LoadFor → Then
 loaded_then setup why = pick (asks_verdict why) (verdict setup (Task.Load why)) (accepted_then setup why)
 
@@ -66,7 +66,7 @@ after_program setup (ProgramFor.MarkBad block) = is_bad_then setup block MarkerF
 unfoldable pub programmed_then : Setup → ProgramFor → Status → Then
 programmed_then setup why status = pick (program_failed_of status) (Err FlashError.ProgramFailed) (after_program setup why)
 
--- ---- whole pages: "`read_page` and `write_page` test length before page"
+-- ---- whole pages: the length is tested ahead of the page
 
 unfoldable pub read_page_then : Setup → ℕ → ℕ → Then
 read_page_then setup page n =

@@ -37,7 +37,7 @@ geometry_at (Some own) geometry id = geometry
 unfoldable pub geometry_for : Setup → NandJedecId → NandGeometry
 geometry_for setup id = geometry_at setup.config.geometry setup.geometry id
 
--- differs from the Rust, which goes on: "also page above 4,096 NAND … found after identifying"
+-- differs from the Rust, which goes on where a page is too large for its read-back
 unfoldable pub identified_then : Setup → NandJedecId → Then
 identified_then setup id =
     pick (leb (geometry_for setup id).page_size MAX-VERIFY-PAGE-SIZE)

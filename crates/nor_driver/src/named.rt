@@ -1,5 +1,5 @@
-// The calls under the Rust's names, a line each: what they do alike is `machine::call::begin`. What a call does not take has no length.
-// And a step of a call under way, and what a read has delivered. Functions, as a type of another crate takes no methods.
+//! The calls under the Rust's names, a line each: what they do alike is `machine::call::begin`. What a call does not take has no length.
+//! And a step of a call under way, and what a read has delivered. Functions, as a type of another crate takes no methods.
 ghost use Rattle.std.specs.Prelude.{◌≡◌, length};
 ghost use Rattle.qspi.specs.Loan.{SameLoan, lending, returning};
 ghost use Rattle.nor_driver.specs.Call.{begin_of};

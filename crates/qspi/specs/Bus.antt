@@ -1,10 +1,10 @@
--- Actions and replies (document 01, "Actions and replies"; qspi/bus.rs).
+-- Actions, and the replies that fit them (docs/SPECIFICATION.md, "Actions and replies"; qspi/bus.rs).
 use Rattle.std.specs.Prelude.{ℕ, Bool, true, false, eqb}
 use Rattle.qspi.specs.declared.bus.Action.{Action}
 use Rattle.qspi.specs.declared.bus.Reply.{Reply}
 use Rattle.qspi.specs.declared.bus.Awaits.{Awaits}
 
--- "A fitting reply is done, or exactly n bytes for a read; a bus action may instead get an error code"
+-- what an action awaits
 abbrev pub awaits_of : Action → Awaits
 awaits_of Action.SelectLow = Awaits.Done
 awaits_of Action.SelectHigh = Awaits.Done
@@ -29,7 +29,7 @@ fits_at (Awaits.BytesOrError m) (Reply.Error code) n = true
 unfoldable pub fits_of : Action → Reply → ℕ → Bool
 fits_of action reply n = fits_at (awaits_of action) reply n
 
--- "Only bus actions use a record; select and delay are answered done"
+-- whether the bus answers it: select and the delay are the host's
 abbrev pub on_bus : Action → Bool
 on_bus Action.SelectLow = false
 on_bus Action.SelectHigh = false

@@ -10,7 +10,7 @@ use Rattle.qspi.specs.declared.bus.Part.{Part}
 abbrev pub part_of : List ℕ → ℕ → ℕ → List ℕ
 part_of s from len = pick (leb from (length s)) (pick (leb len (length s - from)) (take len (drop from s)) []) []
 
--- document 01: "the bytes to send are a part of the scratch or of the caller's data, given out uncopied"
+-- what is sent lies in the scratch or in the caller's data, and is not copied (docs/SPECIFICATION.md, "Lent memory")
 abbrev pub sent_of : Part → List ℕ → List ℕ → List ℕ
 sent_of (Part.Scratch from len) scratch lent = part_of scratch from len
 sent_of (Part.Data from len) scratch lent = part_of lent from len
@@ -44,7 +44,7 @@ delivered_of buffer at s =
 abbrev pub end_of : ℕ → ℕ → ℕ → ℕ → ℕ
 end_of at n size before = pick (leb n size) (pick (leb at (size - n)) (at + n) before) before
 
--- document 01: "the FF filler, as many bytes as the chunk has, starts at place 5 and ends at 260 at most"
+-- a chunk of filler, from place 5 up, 256 bytes at most (docs/SPECIFICATION.md, "Lent memory")
 abbrev pub filler_length : ℕ → ℕ
 filler_length n = pick (leb n 256) n 256
 
@@ -52,6 +52,6 @@ unfoldable pub with_filler : ℕ → List ℕ → List ℕ
 with_filler n scratch =
     pick (leb scratch_least (length scratch)) (paste scratch 5 (replicate (filler_length n) 0xFF) (filler_length n)) scratch
 
--- document 01: "the 00 marker goes to place 261"
+-- the marker, behind the longest filler (docs/SPECIFICATION.md, "Lent memory")
 unfoldable pub with_marker : List ℕ → List ℕ
 with_marker scratch = pick (leb scratch_least (length scratch)) (set scratch 261 0x00) scratch

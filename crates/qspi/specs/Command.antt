@@ -14,10 +14,10 @@ command_bytes (Command.Column opcode column) = opcode ∷ column / 256 % 256 ∷
 command_bytes (Command.ColumnDummy opcode column) = opcode ∷ column / 256 % 256 ∷ column % 256 ∷ 0 ∷ []
 command_bytes (Command.FourDummies opcode) = opcode ∷ 0 ∷ 0 ∷ 0 ∷ 0 ∷ []
 
--- document 01: "The host lends a scratch of 264 bytes or more"
+-- the least scratch (docs/SPECIFICATION.md, "Lent memory")
 abbrev pub scratch_least : ℕ
 scratch_least = 264
 
--- document 01: "A command is put at its start in the step that gives it out"
+-- a command at the scratch's start (docs/SPECIFICATION.md, "Lent memory")
 unfoldable pub with_command : Command → List ℕ → List ℕ
 with_command command scratch = pick (leb scratch_least (length scratch)) (sets scratch 0 (command_bytes command)) scratch

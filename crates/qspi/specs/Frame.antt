@@ -1,4 +1,4 @@
--- One transfer, action by action (document 01, "Actions and replies"; the Rust's `command` and `command_then_read`).
+-- One transfer, action by action (docs/SPECIFICATION.md, "Actions and replies"; the Rust's `command` and `command_then_read`).
 use Rattle.std.specs.Prelude.{ℕ, Bool, true, false, Option, Some, None, Result, Ok, Err, List, length, drop}
 use Rattle.qspi.specs.Choice.{pick}
 use Rattle.qspi.specs.Bus.{fits_of}
@@ -175,7 +175,7 @@ advanced_at f Reply.Data bytes lent =
     moved_on f.transfer (next_stage f.transfer f.stage) (Ok (value_of (sink_of f.transfer) bytes lent))
 advanced_at f (Reply.Error code) bytes lent = moved_on f.transfer (Some Stage.High) (Err (record { 0 = code }))
 
--- where the frame goes; document 01: "After a bus error select goes high and the call ends"
+-- where the frame goes: behind an error select is raised, and the frame is over (docs/SPECIFICATION.md, "Actions and replies")
 unfoldable pub advanced_of : Frame → Reply → List ℕ → List ℕ → Advanced
 advanced_of f reply bytes lent = advanced_at f reply bytes lent
 
@@ -189,7 +189,7 @@ taken_at Reply.Done sink bytes buffer = buffer
 taken_at Reply.Data sink bytes buffer = taken_into sink bytes buffer
 taken_at (Reply.Error code) sink bytes buffer = buffer
 
--- the caller's buffer; document 01: "register, id, marker and read-back replies change no lent byte"
+-- the caller's buffer: only what is read for the caller goes there (docs/SPECIFICATION.md, "Lent memory")
 unfoldable pub taken_in : Frame → Reply → List ℕ → List ℕ → List ℕ
 taken_in f reply bytes buffer = taken_at reply (sink_of f.transfer) bytes buffer
 

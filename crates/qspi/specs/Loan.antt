@@ -1,4 +1,4 @@
--- What a host lends at each step (document 01, "The host lends a scratch of 264 bytes or more").
+-- What a host lends at each step (docs/SPECIFICATION.md, "Lent memory").
 use Rattle.std.specs.Prelude.{ℕ, ◌≡◌, List, length}
 use Rattle.qspi.specs.declared.loan.Lengths.{Lengths}
 use Rattle.qspi.specs.declared.loan.Loan.{Loan}

@@ -3,8 +3,7 @@ use Rattle.std.specs.Prelude.{ℕ, List}
 use Rattle.qspi.specs.Bytes.{sent_of}
 use Rattle.qspi.specs.declared.bus.Action.{Action}
 
--- document 01: "Actions: select low, select high, write bytes, read n bytes, quad read (command, `tclqv_ns`, margin, n),
--- quad write (command, data), delay"
+-- an action and all that it asks for (docs/SPECIFICATION.md, "Actions and replies")
 pub data Shown : Type 0 where
   low high : Shown
   write : List ℕ → Shown

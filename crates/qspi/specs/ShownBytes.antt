@@ -1,4 +1,4 @@
--- What a transfer shows on the bus, byte for byte (document 01, "Actions and replies"; the Rust's `command`,
+-- What a transfer shows on the bus, byte for byte (docs/SPECIFICATION.md, "Actions and replies"; the Rust's `command`,
 -- `command_then_read` and the quad calls), and what it leaves of the scratch.
 use Rattle.std.specs.Prelude.{ℕ, ◌+◌, ◌≤◌, Bool, false, ◌&&◌, ◌||◌, ◌≡◌, List, [], ◌∷◌, length, get_or, replicate, leb, ltb}
 use Rattle.qspi.specs.Choice.{pick}
@@ -64,11 +64,11 @@ pub record ShownBytes : Type 0 where
 abbrev pub within : ℕ → ℕ → ℕ → Bool
 within first n i = leb first i && ltb i (first + n)
 
--- document 01: "A command is put at its start"
+-- a command's places, from the scratch's start (docs/SPECIFICATION.md, "Lent memory")
 abbrev pub command_place : Command → ℕ → Bool
 command_place c i = within 0 (length (command_bytes c)) i
 
--- document 01: the filler "starts at place 5", "the 00 marker goes to place 261"
+-- those of a bad-block mark: the filler's from 5 on, and the marker's
 abbrev pub payload_place : Payload → ℕ → Bool
 payload_place (Payload.Data from len) i = false
 payload_place (Payload.Filler n) i = within 5 (filler_length n) i
@@ -101,7 +101,7 @@ touched_at Stage.High t i = false
 abbrev pub touched : Frame → ℕ → Bool
 touched f i = touched_at f.stage f.transfer i
 
--- document 01: "Other bytes keep their content"
+-- all other places keep their bytes (docs/SPECIFICATION.md, "Lent memory")
 pub record ScratchKept : Type 0 where
   pub size : (f : Frame) (scratch : List ℕ) → length (given_scratch f scratch) ≡ length scratch
   pub kept : (f : Frame) (scratch : List ℕ) (i : ℕ) → touched f i ≡ false → get_or (given_scratch f scratch) i 0 ≡ get_or scratch i 0

@@ -2,8 +2,8 @@
 ghost use Rattle.std.specs.Prelude.{◌≡◌};
 ghost use Rattle.qspi.specs.Bus.{awaits_of, fits_of, on_bus};
 
-// The bytes of an action: a part of the scratch or of the caller's data, by place and length: an action is held between two steps, and
-// what it lies in is lent anew at each.
+/// The bytes of an action by place and length, in the scratch or in the caller's data: an action is held between two steps, and what it
+/// lies in is lent anew at each.
 #[derive(Clone, Copy)]
 pub enum Part {
     Scratch { from: usize, len: usize },

@@ -28,7 +28,7 @@ pub fn part(s: &[u8], from: usize, len: usize) -> &[u8]
         .unwrap_or(&[])
 }
 
-// The bytes to send, as that part of the scratch or of the caller's data itself.
+/// What is to be sent: that part of the scratch itself, or of the caller's data.
 pub fn sent<'a>(p: Part, scratch: &'a [u8], data: &'a [u8]) -> &'a [u8]
     ensures { result.now ≡ sent_of p scratch.now «data».now }
 {
@@ -38,7 +38,7 @@ pub fn sent<'a>(p: Part, scratch: &'a [u8], data: &'a [u8]) -> &'a [u8]
     }
 }
 
-// The delivered beginning of the caller's buffer, as that part of it.
+/// The first n bytes of the caller's buffer, which have been delivered: that part of it.
 pub fn delivered(buffer: &[u8], n: usize) -> &[u8]
     ensures { result.now ≡ take n buffer.now }
 {

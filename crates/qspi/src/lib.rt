@@ -1,5 +1,5 @@
-// The bus under both flash drivers: what a step gives out, which replies fit, commands, and the bytes behind them. And one chip-select
-// frame: a transfer given out action by action, and what each reply does to it, with what a host lends for it.
+//! The bus under both flash drivers: what a step gives out, which replies fit, commands, and the bytes behind them. And one chip-select
+//! frame: a transfer given out action by action, and what each reply does to it, with what a host lends for it.
 #![tactic(auto)]
 
 ghost use Rattle.qspi.specs.Address.{AddressBytes};

@@ -1,4 +1,4 @@
--- How each call begins, and how it is turned away (document 01, "Who can cause a refusal": 13, 14, 12, then the Rust's).
+-- How each call begins, and how it is turned away: 13, 14, 12, then the Rust's own (docs/SPECIFICATION.md, "Refusals and numbers").
 use Rattle.std.specs.Prelude.{ℕ, Bool, true, false, Result, Ok, Err}
 use Rattle.qspi.specs.Choice.{pick}
 use Rattle.qspi.specs.declared.transfer.Transfer.{Transfer}
@@ -14,7 +14,7 @@ pub record Calls (S P A C : Type 0) : Type 0 where
   -- the phase of a construction that has raised select, and the answer of a call that answers nothing
   pub raised : P
   pub done : A
-  -- document 01, "Bounds for a caller's own"
+  -- whether what it holds is inside the bounds (docs/SPECIFICATION.md, "Geometry")
   pub in_bounds : S → Bool
 
 module _ {F S P A G : Type 0} (shape : Shape F S P A G) where
@@ -31,7 +31,7 @@ module _ {F S P A G : Type 0} (shape : Shape F S P A G) where
   abbrev pub fresh_call : F → F
   fresh_call flash = shape.resting (shape.setup flash) (shape.built flash) 0
 
-  -- "A call turned away before its first action, by caller or host, has not begun"
+  -- a call that is turned away ahead of its first action has not begun
   unfoldable pub opened : F → Takes → Then S P A → G
   opened flash takes (go setup transfer phase) = settled shape (fresh_call flash) takes (go setup transfer phase)
   opened flash takes (end setup answer) = settled shape (fresh_call flash) takes (end setup answer)

@@ -1,4 +1,4 @@
--- How a step has ended the call: document 01's number, and the values as a trace prints them.
+-- How a step has ended the call: its number (docs/SPECIFICATION.md, "Refusals and numbers"), and the values as a trace prints them.
 use Rattle.std.specs.Prelude.{ℕ, List}
 use Rattle.spi_flash.specs.Error.{error_number, error_values}
 use Rattle.spi_flash.specs.Shape.{Given, acts, ends, fails, refuses}
@@ -11,7 +11,7 @@ pub data Ending : Type 0 where
 abbrev pub ends_by : FlashError → Ending
 ends_by error = ends_with (error_number error) (error_values error)
 
--- "0 is success"; an action has not ended, and has no number
+-- 0 is success; an action has not ended, and has no number
 abbrev pub ending_in : {A : Type 0} → (A → List ℕ) → Given A → Ending
 ending_in values (acts action) = goes
 ending_in values (ends answer) = ends_with 0 (values answer)

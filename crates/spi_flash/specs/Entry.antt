@@ -1,4 +1,4 @@
--- Whether a call that uses the bus may begin (document 01, "Who can cause a refusal").
+-- Whether a call that uses the bus may begin (docs/SPECIFICATION.md, "Refusals and numbers").
 use Rattle.std.specs.Prelude.{ℕ, Bool, ltb, Result, Ok, Err}
 use Rattle.qspi.specs.Choice.{pick}
 use Rattle.qspi.specs.Command.{scratch_least}

@@ -1,4 +1,4 @@
--- The numbers of document 01, "Who can cause a refusal"; 0 is success.
+-- The numbers of the errors (docs/SPECIFICATION.md, "Refusals and numbers"); 0 is success.
 use Rattle.std.specs.Prelude.{ℕ, List, [], ◌∷◌}
 use Rattle.spi_flash.specs.declared.error.FlashError.{FlashError}
 use Rattle.spi_flash.specs.declared.error.NorFlashErrorKind.{NorFlashErrorKind}
@@ -21,7 +21,7 @@ error_number FlashError.Misfit = 14
 error_number FlashError.MalformedTape = 15
 error_number FlashError.TapeSpent = 16
 
--- "1 Spi, with its code": the values beside the number
+-- the values beside the number: a bus error has its code
 abbrev pub error_values : FlashError → List ℕ
 error_values (FlashError.Spi code) = code ∷ []
 error_values _ = []

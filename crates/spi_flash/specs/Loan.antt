@@ -1,4 +1,4 @@
--- What a call takes of what a host lends at each step (document 01, "a buffer length altered during a call").
+-- What a call takes of what a host lends at each step (docs/SPECIFICATION.md, "Lent memory").
 use Rattle.std.specs.Prelude.{ℕ, Bool, true, false, List, length, ltb, eqb}
 use Rattle.qspi.specs.Choice.{pick}
 use Rattle.qspi.specs.Command.{scratch_least}
@@ -8,7 +8,7 @@ use Rattle.qspi.specs.declared.frame.Exchanged.{Exchanged}
 use Rattle.qspi.specs.declared.frame.Frame.{Frame}
 use Rattle.spi_flash.specs.declared.loan.Takes.{Takes}
 
--- document 01, 14: "scratch under 264, or a buffer length altered during a call"
+-- what the call takes is as long as at its beginning; otherwise it is 14 (docs/SPECIFICATION.md, "Refusals and numbers")
 abbrev pub length_kept : Takes → ℕ → ℕ → Bool
 length_kept Takes.Nothing buffer given = true
 length_kept (Takes.Buffer n) buffer given = eqb buffer n

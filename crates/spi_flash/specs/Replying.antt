@@ -1,4 +1,4 @@
--- A step: one reply to the action that is out (document 01, "Actions and replies", "Who can cause a refusal").
+-- A step: one reply to the action that is out (docs/SPECIFICATION.md, "Actions and replies").
 use Rattle.std.specs.Prelude.{ℕ, List, length, take}
 use Rattle.qspi.specs.declared.bus.Action.{Action}
 use Rattle.qspi.specs.declared.bus.Reply.{Reply}

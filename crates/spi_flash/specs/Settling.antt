@@ -1,4 +1,4 @@
--- What a step comes to: the next transfer's first action, or the call's end (document 01, "Actions and replies").
+-- What a step comes to: the next transfer's first action, or the call's end (docs/SPECIFICATION.md, "Actions and replies").
 use Rattle.std.specs.Prelude.{ℕ, true}
 use Rattle.qspi.specs.Frame.{first_of, action_of}
 use Rattle.qspi.specs.declared.transfer.Transfer.{Transfer}
@@ -16,7 +16,7 @@ module _ {F S P A G : Type 0} (shape : Shape F S P A G) where
   abbrev pub succeeded : S → ℕ → A → G
   succeeded setup delivered answer = shape.ended (shape.resting setup true delivered) answer
 
-  -- "A begun call that ends otherwise keeps the bytes already delivered"
+  -- a call that fails keeps what it has delivered (docs/SPECIFICATION.md, "Lent memory")
   abbrev pub broken : F → FlashError → G
   broken flash error = shape.failed (shape.resting (shape.setup flash) (shape.built flash) (shape.delivered flash)) error
 

@@ -36,14 +36,14 @@ pub data Running (P : Type 0) : Type 0 where
   idle : Running P
   busy : Job P → Running P
 
--- what a step gives: an action, "made by the drivers, read by the host"; the call's success; the failure of a call that had begun; or
--- a refusal, "nothing touched"
+-- what a step gives: an action for the host; the call's success; the failure of a call that had begun; or a refusal, which changes
+-- nothing
 pub data Given (A : Type 0) : Type 0 where
   acts : Action → Given A
   ends : A → Given A
   fails refuses : FlashError → Given A
 
--- a driver's own state and its own steps ("The core passes its state by value")
+-- a driver's own state and its own steps, to which the state is passed by value
 pub record Shape (F S P A G : Type 0) : Type 0 where
   pub setup : F → S
   -- the last construction begun has succeeded

@@ -1,10 +1,10 @@
--- The rule of a wait (document 01, "Wait limits"; the Rust's two functions `wait_ready`).
+-- The rule of a wait (docs/SPECIFICATION.md, "Waits and bounds"; the Rust's two functions `wait_ready`).
 use Rattle.std.specs.Prelude.{ℕ, ◌+◌, ◌-◌, Bool, leb, eqb}
 use Rattle.qspi.specs.Choice.{pick}
 use Rattle.spi_flash.specs.declared.wait.Timings.{Timings}
 use Rattle.spi_flash.specs.declared.wait.Wait.{Wait}
 
--- "The wait looks at status after each delay (NOR looks before any)"
+-- the first delay, or a look at once where that is 0
 unfoldable pub first_wait : Timings → Wait
 first_wait t = pick (eqb t.initial_us 0) Wait.Look (Wait.Pause t.initial_us t.initial_us)
 
@@ -15,7 +15,7 @@ u32_max = 4294967295
 abbrev pub saturating_add : ℕ → ℕ → ℕ
 saturating_add a b = pick (leb b (u32_max - a)) (a + b) u32_max
 
--- "ends when not busy, and refuses only when busy with the requested sum at or above the limit"
+-- busy: another delay, or the refusal once the sum has come to the limit
 abbrev pub busy_wait : Timings → ℕ → Wait
 busy_wait t waited = pick (leb t.timeout_us waited) Wait.Timeout (Wait.Pause t.poll_us (saturating_add waited t.poll_us))
 

@@ -23,7 +23,7 @@ pub enum FlashError {
     NotSupported,
     // Added: a geometry outside the bounds.
     InvalidGeometry,
-    // Added: a call during another or before a construction has succeeded, or a reply with none expected.
+    // Added: a call during another or without a driver, or a reply where none is awaited.
     OutOfTurn,
     // Added: a reply or something lent that does not fit the action awaited.
     Misfit,
@@ -42,7 +42,7 @@ pub enum NorFlashErrorKind {
 }
 
 impl FlashError {
-    // The number of document 01. No discriminant has it, since Spi carries its code, and no From, since that code is a u8 of the error too.
+    /// The error's number, from 1 to 16. No discriminant has it, since Spi carries its code, and no From, since that code is a u8 of the error too.
     pub fn number(self) -> u8
         ensures { result ≡ error_number self }
     {

@@ -1,5 +1,5 @@
-// What both flash drivers share: their errors, what a call takes, whether it may begin, ranges and their pieces, reads of numbers, tables of
-// keys, the rule of their waits, and an answer's values as numbers.
+//! What both flash drivers share: their errors, what a call takes, whether it may begin, ranges and their pieces, reads of numbers, tables of
+//! keys, the rule of their waits, and an answer's values as numbers.
 #![tactic(auto)]
 
 ghost use Rattle.spi_flash.specs.WaitLaw.{WaitInGeneral};

@@ -1,4 +1,4 @@
--- A reader: the tape and the position of its next record.
+-- A reader: a tape, and where its next record stands.
 use Rattle.std.specs.Prelude.{ℕ, List, Option}
 use Rattle.std.specs.Borrow.{Bor}
 use Rattle.tape.specs.Record.{taken_at}

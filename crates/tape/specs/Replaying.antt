@@ -29,7 +29,7 @@ abbrev pub played_to : {R : Type 0} → R → List ℕ → List ℕ → Played R
 played_to replay scratch buffer = record { replay = replay; scratch = scratch; buffer = buffer }
 
 module _ {R F S P A G C : Type 0} (taped : Taped R F S P A G C) where
-  -- "15 malformed, under 3 or over 16,777,215 bytes, checked before any action", then the call's own tests
+  -- a tape that is not well formed is 15, ahead of the call's own tests (docs/SPECIFICATION.md, "Refusals and numbers")
   unfoldable pub begun_over : F → C → List ℕ → ℕ → ℕ → ℕ → R
   begun_over flash call tape s b d =
       pick (accepted_of tape) (taped.replay_at (taped.begin flash call s b d) (first_of tape))
@@ -42,7 +42,7 @@ module _ {R F S P A G C : Type 0} (taped : Taped R F S P A G C) where
   unfoldable pub plain_over : F → ℕ → List ℕ → List ℕ → List ℕ → Played R
   plain_over flash at scratch buffer lent = played_at at (taped.step flash Reply.Done [] scratch buffer lent)
 
-  -- a bus action is answered by the record; with none left it is 16, "call unfinished"
+  -- a bus action is answered by the record; with none left it is 16, and the call stays unfinished
   abbrev pub record_then : Option Record → F → ℕ → List ℕ → List ℕ → List ℕ → List ℕ → Played R
   record_then x flash at bytes scratch buffer lent =
       pick (spent_of x) (played_at at (stepped_to (taped.shape.refused flash FlashError.TapeSpent) scratch buffer))

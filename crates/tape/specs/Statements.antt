@@ -13,7 +13,7 @@ pub record TapeJudged : Type 0 where
   pub sound : (tape : List ℕ) → AllBytes tape → accepted_of tape ≡ true → WellFormed tape
   pub complete : (tape : List ℕ) → WellFormed tape → accepted_of tape ≡ true
 
--- the tape `00 00 00 00 01 00 00 03 EF 40 17 00 00 00`: done, then three bytes
+-- a record of done, a record of three data bytes, and a trailer that points to the first
 abbrev pub example_tape : List ℕ
 example_tape = 0 ∷ 0 ∷ 0 ∷ 0 ∷ 1 ∷ 0 ∷ 0 ∷ 3 ∷ 0xEF ∷ 0x40 ∷ 0x17 ∷ 0 ∷ 0 ∷ 0 ∷ []
 

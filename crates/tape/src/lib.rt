@@ -1,5 +1,5 @@
-// The reply tape: a test bench makes it, and a replay reads it. A replay is a call of a driver over a tape: bus actions are answered by its
-// records, select and delay by "done".
+//! The reply tape: a test bench makes it, and a replay reads it. A replay is a call of a driver over a tape: bus actions are answered by its
+//! records, select and delay by "done".
 #![tactic(auto)]
 
 ghost use Rattle.tape.specs.Statements.{TapeJudged, Example, ReaderWalks};

@@ -1,4 +1,4 @@
-// A reader of a tape: the tape and the position of its next record.
+// A reader: a tape, and where its next record stands.
 // It reads every tape at every position; where no record fits, it gives none and stays.
 ghost use Rattle.std.specs.Prelude.{◌≡◌, ◌+◌, ◌-◌, ◌≤◌, ◌<◌, ◌^◌, length, None};
 ghost use Rattle.std.specs.Iterator.{at_most};
