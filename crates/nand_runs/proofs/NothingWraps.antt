@@ -11,6 +11,7 @@ use Rattle.spi_nand.specs.Transfer.{in_cache, in_range}
 use Rattle.spi_nand.specs.declared.config.NandGeometry.{NandGeometry}
 use Rattle.spi_nand.proofs.Geometries.{geometries-hold}
 use Rattle.spi_nand.proofs.WaitTable.{wait-table}
+use Rattle.nand_runs.proofs.Built.{nand-built}
 use Rattle.nand_runs.specs.RustConfig.{block_size, page_count, capacity}
 use Rattle.nand_runs.specs.Rust.{checked_add, ends_within}
 use Rattle.nand_runs.specs.NothingWraps.{Held, ReadTurn, NothingWraps}
@@ -51,6 +52,7 @@ module _ (g : NandGeometry) (h : Held g) where
 
 pub nothing-wraps : NothingWraps
 nothing-wraps = record {
+  held = λ turns built. record { in_bounds = nand-built.inside turns built; page = nand-built.page turns built };
   first = λ operation. omega (arith, (wait-table.rule operation).below, (wait-table.rule operation).fits);
   waits = λ operation waited below. omega (arith, (wait-table.rule operation).fits);
   all_pages = λ g h. omega (arith, (geometries-hold.bounded g h.in_bounds).pages);

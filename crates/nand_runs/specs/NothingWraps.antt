@@ -1,6 +1,10 @@
 -- Inside the bounds (docs/SPECIFICATION.md, "Geometry") no operation of nand/driver.rs wraps, goes below 0, divides by 0 or slices past an
 -- end, so that its numbers are those of the transcription. In the order of its functions; a function that is not here computes nothing.
-use Rattle.std.specs.Prelude.{ℕ, ◌+◌, ◌-◌, ◌*◌, ◌/◌, ◌%◌, ◌^◌, ◌≤◌, ◌<◌, ◌≡◌, min, true}
+use Rattle.std.specs.Prelude.{ℕ, ◌+◌, ◌-◌, ◌*◌, ◌/◌, ◌%◌, ◌^◌, ◌≤◌, ◌<◌, ◌≡◌, min, true, List}
+use Rattle.flash_runs.specs.Built.{after_turns}
+use Rattle.flash_runs.specs.SameAsRust.{Turn}
+use Rattle.spi_nand.specs.declared.call.Call.{Call}
+use Rattle.nand_runs.specs.Run.{nand_driver}
 use Rattle.spi_nand.specs.Config.{in_bounds}
 use Rattle.spi_nand.specs.Opcode.{timings_of}
 use Rattle.spi_nand.specs.declared.config.NandGeometry.{NandGeometry}
@@ -37,6 +41,8 @@ pub record FillTurn (g : NandGeometry) (column : ℕ) : Type 0 where
   pub next : column + min (g.page_size - column) FF-CHUNK-LEN ≤ g.page_size
 
 pub record NothingWraps : Type 0 where
+  -- every driver that is built holds it, whatever calls came before
+  pub held : (turns : List (Turn Call)) → nand_driver.built (after_turns nand_driver nand_driver.fresh turns) ≡ true → Held (nand_driver.setup (after_turns nand_driver nand_driver.fresh turns)).geometry
   -- fn wait_ready: waited += timings.poll_us, from timings.initial_us on
   pub first : (operation : Operation) → (timings_of operation).initial_us < 2 ^ 32
   pub waits : (operation : Operation) (waited : ℕ) → waited < (timings_of operation).timeout_us → waited + (timings_of operation).poll_us < 2 ^ 32

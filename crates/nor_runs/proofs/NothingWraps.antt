@@ -10,6 +10,7 @@ use Rattle.spi_flash.proofs.Pieces.{range-told}
 use Rattle.spi_nor.specs.declared.config.NorDeviceInfo.{NorDeviceInfo}
 use Rattle.spi_nor.proofs.DeviceBounds.{device_bounds}
 use Rattle.spi_nor.proofs.WaitTable.{wait-table}
+use Rattle.nor_runs.proofs.Built.{nor-built}
 use Rattle.nor_runs.specs.Rust.{range_in_bounds, chunks}
 use Rattle.nor_runs.specs.NothingWraps.{Held, ReadTurn, WriteTurn, EraseTurn, NothingWraps}
 use Rattle.nor_runs.proofs.Agrees.{range-same, some-block, most-sector}
@@ -43,6 +44,7 @@ erases device h address to below most =
 
 pub nothing-wraps : NothingWraps
 nothing-wraps = record {
+  held = λ turns built. record { in_bounds = nor-built.inside turns built; page = nor-built.page turns built };
   waits = λ operation waited below. omega (arith, (wait-table.rule operation).fits);
   ranges = λ capacity offset n r. omega (arith, told capacity offset n r);
   reads = reads;

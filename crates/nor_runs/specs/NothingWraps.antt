@@ -1,6 +1,10 @@
 -- Inside the bounds (docs/SPECIFICATION.md, "Geometry") no operation of nor/driver.rs wraps, goes below 0, divides by 0 or slices past an
 -- end, so that its numbers are those of the transcription. In the order of its functions; a function that is not here computes nothing.
-use Rattle.std.specs.Prelude.{ℕ, ◌+◌, ◌-◌, ◌*◌, ◌^◌, ◌≤◌, ◌<◌, ◌≡◌, min, true}
+use Rattle.std.specs.Prelude.{ℕ, ◌+◌, ◌-◌, ◌*◌, ◌^◌, ◌≤◌, ◌<◌, ◌≡◌, min, true, List}
+use Rattle.flash_runs.specs.Built.{after_turns}
+use Rattle.flash_runs.specs.SameAsRust.{Turn}
+use Rattle.spi_nor.specs.declared.call.Call.{Call}
+use Rattle.nor_runs.specs.Run.{nor_driver}
 use Rattle.spi_nor.specs.Config.{in_bounds_of}
 use Rattle.spi_nor.specs.Opcode.{timings_of}
 use Rattle.spi_nor.specs.declared.config.NorDeviceInfo.{NorDeviceInfo}
@@ -53,6 +57,8 @@ pub record EraseTurn (device : NorDeviceInfo) (address to : ℕ) : Type 0 where
   pub three_bytes : address < 2 ^ 24
 
 pub record NothingWraps : Type 0 where
+  -- every driver that is built holds it, whatever calls came before
+  pub held : (turns : List (Turn Call)) → nor_driver.built (after_turns nor_driver nor_driver.fresh turns) ≡ true → Held (nor_driver.setup (after_turns nor_driver nor_driver.fresh turns)).device
   -- fn wait_ready: waited.saturating_add(opcode::POLL_INTERVAL_US) is the sum
   pub waits : (operation : Operation) (waited : ℕ) → waited < (timings_of operation).timeout_us → waited + (timings_of operation).poll_us < 2 ^ 32
   -- fn range_in_bounds: capacity - offset, which is computed behind `offset <= capacity` alone

@@ -46,7 +46,8 @@ pub fn nor_words_say_the_rusts()
     ensures { SameWords }
 {}
 
-/// Inside the bounds no operation of the Rust wraps, goes below 0, divides by 0 or slices past an end.
+/// Inside the bounds, where every driver that is built is, no operation of the Rust wraps, goes below 0, divides by 0 or slices past
+/// an end.
 pub fn nor_never_wraps()
     ensures { NothingWraps }
 {}
