@@ -192,16 +192,16 @@ module _ {F C S A : Type 0} {driver : Driver F C S A} (known : Known driver) (fl
   abbrev payloads : Payloads
   payloads = payloads_of (takes_at driver c l) (driver.stamps (driver.setup flash) c)
 
-  puts : PutsOver closed payloads (run_at driver flash c l es)
+  puts : PutsOver payloads closed payloads (run_at driver flash c l es)
   unfolding PutsOver
   puts = ⊎_elim (λ n. rw (nothing n) tt) opened begins
     where
-      opened : Opened → PutsOver closed payloads (run_at driver flash c l es)
+      opened : Opened → PutsOver payloads closed payloads (run_at driver flash c l es)
       opened o =
-          let over = puts-over C known.Valid (decide_next parts) (takes_at driver c l) meaning supplies.simulates es in
-          let pays : Pays payloads (ask o.first (meaning o.at)) = subst (Pays payloads) o.program (supplies.pays (driver.setup flash) c len (length l.given) o.bounds) in
+          let over = puts-over payloads C known.Valid (decide_next parts) (takes_at driver c l) meaning supplies.simulates es in
+          let pays : Pays payloads payloads (ask o.first (meaning o.at)) = subst (Pays payloads payloads) o.program (supplies.pays (driver.setup flash) c len (length l.given) o.bounds) in
           rw (opens-run known flash o es)
-          (settled-puts C known.Valid (decide_next parts) (takes_at driver c l) meaning supplies.simulates es over (more o.first o.at) closed payloads l l.buffer o.valid pays)
+          (settled-puts payloads C known.Valid (decide_next parts) (takes_at driver c l) meaning supplies.simulates es over (more o.first o.at) closed payloads l l.buffer o.valid pays)
 
 module _ {F C S A : Type 0} {driver : Driver F C S A} (known : Known driver) where
   pub lent_bytes : LentBytes driver

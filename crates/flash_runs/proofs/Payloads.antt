@@ -1,7 +1,7 @@
 -- What a program gives out behind its commands, over all its paths.
 use Prim.Native.Nat.{ℕ, ◌≤◌}
 use native.Mathlib.Omega.{arith}
-use mathlib.Core.Path.{◌≡◌}
+use mathlib.Core.Path.{◌≡◌, refl}
 use mathlib.Core.List.{[], ◌∷◌}
 use Rattle.qspi.specs.Bytes.{filler_length}
 use Rattle.qspi.specs.declared.transfer.Payload.{Payload}
@@ -10,7 +10,7 @@ use Rattle.qspi.specs.declared.transfer.Transfer.{Transfer}
 use Rattle.spi_flash.specs.Path.{Bounded}
 use Rattle.spi_flash.specs.Prog.{Prog, ret, fail, ask, ◌>>=◌, ◌>>◌}
 use Rattle.spi_flash.proofs.Unread.{none_first, none-later}
-use Rattle.flash_runs.specs.Scratch.{filler, marker, Payloads, callers, stamps}
+use Rattle.flash_runs.specs.Scratch.{filler, marker, Payloads, callers, stamps, AllOrNone}
 
 -- the next of the payloads is this one, and the rest comes later
 abbrev pub PaysBy : Payloads → Payload → (Payloads → Type 0) → Type 0
@@ -24,10 +24,11 @@ PaysIn p (Transfer.Framed c (Body.Write payload)) later = PaysBy p payload later
 PaysIn p (Transfer.Framed c (Body.QuadWrite payload)) later = PaysBy p payload later
 PaysIn p _ later = later p
 
-abbrev pub Pays : {A : Type 0} → Payloads → Prog A → Type 0
-Pays p (ret a) = Unit {0}
-Pays p (fail e) = Unit {0}
-Pays p (ask t k) = PaysIn p t (λ q. (v : ℕ) → Pays q (k v))
+-- with all or none of it given out at a good end
+abbrev pub Pays : {A : Type 0} (all : Payloads) → Payloads → Prog A → Type 0
+Pays all p (ret a) = AllOrNone all p
+Pays all p (fail e) = Unit {0}
+Pays all p (ask t k) = PaysIn p t (λ q. (v : ℕ) → Pays all q (k v))
 
 -- ---- as a weight of transfers
 
@@ -47,33 +48,41 @@ stamp_weight (Transfer.Framed c (Body.Write payload)) = stamped payload
 stamp_weight (Transfer.Framed c (Body.QuadWrite payload)) = stamped payload
 stamp_weight _ = 0
 
--- a program that gives out nothing behind its commands, and what follows it
-pays-asked : {A : Type 0} (p : Payloads) (t : Transfer) (k : ℕ → Prog A) → payload_weight t ≤ 0 → ((v : ℕ) → Pays p (k v)) → Pays p (ask t k)
-pays-asked p Transfer.Raise k none later = later
-pays-asked p (Transfer.Pause us) k none later = later
-pays-asked p (Transfer.Framed c Body.None) k none later = later
-pays-asked p (Transfer.Framed c (Body.Read n sink)) k none later = later
-pays-asked p (Transfer.Framed c (Body.Write payload)) k none later = absurd (omega arith)
-pays-asked p (Transfer.Framed c (Body.QuadRead tclqv margin n sink)) k none later = later
-pays-asked p (Transfer.Framed c (Body.QuadWrite payload)) k none later = absurd (omega arith)
+-- none of it is given out
+pub none-given : (all : Payloads) → AllOrNone all all
+none-given callers = refl
+none-given (stamps []) = tt
+none-given (stamps (x ∷ xs)) = refl
 
-pub pays-none : {A : Type 0} (p : Payloads) (x : Prog A) → Bounded payload_weight 0 x → Pays p x
-pays-none p (ret a) h = tt
-pays-none p (fail e) h = tt
-pays-none p (ask t k) h = pays-asked p t k (none_first t k h) (λ v. pays-none p (k v) (none-later t k h v))
+-- of a call that has all this to give out
+module _ (all : Payloads) where
+  -- a program that gives out nothing behind its commands, and what follows it
+  pays-asked : {A : Type 0} (p : Payloads) (t : Transfer) (k : ℕ → Prog A) → payload_weight t ≤ 0 → ((v : ℕ) → Pays all p (k v)) → Pays all p (ask t k)
+  pays-asked p Transfer.Raise k none later = later
+  pays-asked p (Transfer.Pause us) k none later = later
+  pays-asked p (Transfer.Framed c Body.None) k none later = later
+  pays-asked p (Transfer.Framed c (Body.Read n sink)) k none later = later
+  pays-asked p (Transfer.Framed c (Body.Write payload)) k none later = absurd (omega arith)
+  pays-asked p (Transfer.Framed c (Body.QuadRead tclqv margin n sink)) k none later = later
+  pays-asked p (Transfer.Framed c (Body.QuadWrite payload)) k none later = absurd (omega arith)
 
-pub pays-bind : {A B : Type 0} (p : Payloads) (x : Prog A) (f : A → Prog B) → Bounded payload_weight 0 x → ((a : A) → Pays p (f a)) → Pays p (x >>= f)
-unfolding ◌>>=◌
-pays-bind p (ret a) f h later = later a
-pays-bind p (fail e) f h later = tt
-pays-bind p (ask t k) f h later = pays-asked p t (λ v. k v >>= f) (none_first t k h) (λ v. pays-bind p (k v) f (none-later t k h v) later)
+  pub pays-none : {A : Type 0} (p : Payloads) (x : Prog A) → AllOrNone all p → Bounded payload_weight 0 x → Pays all p x
+  pays-none p (ret a) e h = e
+  pays-none p (fail error) e h = tt
+  pays-none p (ask t k) e h = pays-asked p t k (none_first t k h) (λ v. pays-none p (k v) e (none-later t k h v))
 
-pub pays-then : {A B : Type 0} (p : Payloads) (x : Prog A) (y : Prog B) → Bounded payload_weight 0 x → Pays p y → Pays p (x >> y)
-unfolding ◌>>◌
-pays-then p x y h later = pays-bind p x (λ a. y) h (λ a. later)
+  pub pays-bind : {A B : Type 0} (p : Payloads) (x : Prog A) (f : A → Prog B) → Bounded payload_weight 0 x → ((a : A) → Pays all p (f a)) → Pays all p (x >>= f)
+  unfolding ◌>>=◌
+  pays-bind p (ret a) f h later = later a
+  pays-bind p (fail e) f h later = tt
+  pays-bind p (ask t k) f h later = pays-asked p t (λ v. k v >>= f) (none_first t k h) (λ v. pays-bind p (k v) f (none-later t k h v) later)
+
+  pub pays-then : {A B : Type 0} (p : Payloads) (x : Prog A) (y : Prog B) → Bounded payload_weight 0 x → Pays all p y → Pays all p (x >> y)
+  unfolding ◌>>◌
+  pays-then p x y h later = pays-bind p x (λ a. y) h (λ a. later)
 
 -- a program that gives out the caller's data alone
-pays-data : {A : Type 0} (t : Transfer) (k : ℕ → Prog A) → stamp_weight t ≤ 0 → ((v : ℕ) → Pays callers (k v)) → Pays callers (ask t k)
+pays-data : {A : Type 0} (t : Transfer) (k : ℕ → Prog A) → stamp_weight t ≤ 0 → ((v : ℕ) → Pays callers callers (k v)) → Pays callers callers (ask t k)
 pays-data Transfer.Raise k none later = later
 pays-data (Transfer.Pause us) k none later = later
 pays-data (Transfer.Framed c Body.None) k none later = later
@@ -86,8 +95,8 @@ pays-data (Transfer.Framed c (Body.QuadWrite (Payload.Data from len))) k none la
 pays-data (Transfer.Framed c (Body.QuadWrite (Payload.Filler n))) k none later = absurd (omega arith)
 pays-data (Transfer.Framed c (Body.QuadWrite Payload.Marker)) k none later = absurd (omega arith)
 
-pub pays-callers : {A : Type 0} (x : Prog A) → Bounded stamp_weight 0 x → Pays callers x
-pays-callers (ret a) h = tt
+pub pays-callers : {A : Type 0} (x : Prog A) → Bounded stamp_weight 0 x → Pays callers callers x
+pays-callers (ret a) h = refl
 pays-callers (fail e) h = tt
 pays-callers (ask t k) h = pays-data t k (none_first t k h) (λ v. pays-callers (k v) (none-later t k h v))
 
@@ -114,11 +123,11 @@ pays-in-later f p (Transfer.Framed c (Body.Write payload)) h = pays-later f p pa
 pays-in-later f p (Transfer.Framed c (Body.QuadRead tclqv margin n sink)) h = f p h
 pays-in-later f p (Transfer.Framed c (Body.QuadWrite payload)) h = pays-later f p payload h
 
-pub pays-ended : {A B : Type 0} (p : Payloads) (x : Prog A) (b : B) → Pays p x → Pays p (x >> ret b)
+pub pays-ended : {A B : Type 0} (all p : Payloads) (x : Prog A) (b : B) → Pays all p x → Pays all p (x >> ret b)
 unfolding ◌>>=◌ ◌>>◌
-pays-ended p (ret a) b h = tt
-pays-ended p (fail e) b h = tt
-pays-ended p (ask t k) b h = pays-in-later (λ q later v. pays-ended q (k v) b (later v)) p t h
+pays-ended all p (ret a) b h = h
+pays-ended all p (fail e) b h = tt
+pays-ended all p (ask t k) b h = pays-in-later (λ q later v. pays-ended all q (k v) b (later v)) p t h
 
 -- from p down to q, where it comes to its end
 abbrev pub Spends : {A : Type 0} → Payloads → Payloads → Prog A → Type 0
@@ -126,11 +135,11 @@ Spends p q (ret a) = p ≡ q
 Spends p q (fail e) = Unit {0}
 Spends p q (ask t k) = PaysIn p t (λ r. (v : ℕ) → Spends r q (k v))
 
-pub pays-spent : {A B : Type 0} (p q : Payloads) (x : Prog A) (y : Prog B) → Spends p q x → Pays q y → Pays p (x >> y)
+pub pays-spent : {A B : Type 0} (all p q : Payloads) (x : Prog A) (y : Prog B) → Spends p q x → Pays all q y → Pays all p (x >> y)
 unfolding ◌>>=◌ ◌>>◌
-pays-spent p q (ret a) y h later = rw h later
-pays-spent p q (fail e) y h later = tt
-pays-spent p q (ask t k) y h later = pays-in-later (λ r rest v. pays-spent r q (k v) y (rest v) later) p t h
+pays-spent all p q (ret a) y h later = rw h later
+pays-spent all p q (fail e) y h later = tt
+pays-spent all p q (ask t k) y h later = pays-in-later (λ r rest v. pays-spent all r q (k v) y (rest v) later) p t h
 
 pub spends-then : {A B : Type 0} (p q r : Payloads) (x : Prog A) (y : Prog B) → Spends p q x → Spends q r y → Spends p r (x >> y)
 unfolding ◌>>=◌ ◌>>◌

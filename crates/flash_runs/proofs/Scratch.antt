@@ -45,10 +45,10 @@ puts-command : (c : Declared.Command) (s : List ℕ) → Long s → Command.with
 unfolding Command.with_command
 puts-command c s h = rw (le-leb scratch_least (length s) h)
 
-module _ {A : Type 0} (k : ℕ → Prog A) where
+module _ (all : Payloads) {A : Type 0} (k : ℕ → Prog A) where
   -- what is left to give out behind a transfer
   abbrev Later : Payloads → Type 0
-  Later p = (v : ℕ) → Pays p (k v)
+  Later p = (v : ℕ) → Pays all p (k v)
 
   abbrev PaysOn : Payloads → Outcome → Type 0
   PaysOn p (Ok v) = Later p
@@ -89,8 +89,8 @@ module _ {A : Type 0} (k : ℕ → Prog A) where
 
   -- and what is left to give out
   abbrev PaysAt : Payloads → Stage → Transfer → Outcome → Type 0
-  PaysAt p Stage.Start t o = Pays p (ask t k)
-  PaysAt p Stage.Command t o = Pays p (ask t k)
+  PaysAt p Stage.Start t o = Pays all p (ask t k)
+  PaysAt p Stage.Command t o = Pays all p (ask t k)
   PaysAt p Stage.Payload t o = Later p
   PaysAt p Stage.High t o = PaysOn p o
 
@@ -98,7 +98,7 @@ module _ {A : Type 0} (k : ℕ → Prog A) where
     pub framed : FramedAt stage t frame
     pub pays : PaysAt p stage t o
 
-  pub first-stands : (t : Transfer) (frame : BusFrame) (p : Payloads) (o : Outcome) → Pays p (ask t k) →
+  pub first-stands : (t : Transfer) (frame : BusFrame) (p : Payloads) (o : Outcome) → Pays all p (ask t k) →
       Stands (frame_after (start_shown t) frame) (payloads_after (start_shown t) frame p) Stage.Start t o
   first-stands Transfer.Raise frame p o h = record { framed = tt; pays = h }
   first-stands (Transfer.Pause us) frame p o h = record { framed = tt; pays = h }
@@ -121,7 +121,7 @@ module _ {A : Type 0} (k : ℕ → Prog A) where
     raised : (t : Transfer) (o : Outcome) → PaysOn p o → PutsAt Stage.High t o
     raised t o h = (refl, record { framed = tt; pays = h })
 
-    after-start : (t : Transfer) (o : Outcome) → FramedAt Stage.Start t frame → Pays p (ask t k) → PutsBy (moved_on t (next_stage t Stage.Start) o)
+    after-start : (t : Transfer) (o : Outcome) → FramedAt Stage.Start t frame → Pays all p (ask t k) → PutsBy (moved_on t (next_stage t Stage.Start) o)
     after-start Transfer.Raise o f h = pays-on p o h
     after-start (Transfer.Pause us) o f h = pays-on p o h
     after-start (Transfer.Framed c Body.None) o f h = rw f (puts-command c s long, record { framed = refl; pays = h })
@@ -132,7 +132,7 @@ module _ {A : Type 0} (k : ℕ → Prog A) where
         let put = pays-payload p payload given (with_command (command_bytes c) s) (rw (length-sets s 0 (command_bytes c)) long) h in
         rw (f, puts-command c s long) (put.0, record { framed = tt; pays = put.1 })
 
-    after-command : (t : Transfer) (o : Outcome) → FramedAt Stage.Command t frame → Pays p (ask t k) → PutsBy (moved_on t (next_stage t Stage.Command) o)
+    after-command : (t : Transfer) (o : Outcome) → FramedAt Stage.Command t frame → Pays all p (ask t k) → PutsBy (moved_on t (next_stage t Stage.Command) o)
     after-command Transfer.Raise o f h = raised Transfer.Raise o (pays-on p o h)
     after-command (Transfer.Pause us) o f h = raised (Transfer.Pause us) o (pays-on p o h)
     after-command (Transfer.Framed c Body.None) o f h = raised (Transfer.Framed c Body.None) o (pays-on p o h)
@@ -164,29 +164,29 @@ first-puts (Transfer.Framed c body) frame p given scratch = refl
 
 -- ---- every run
 
-module _ (C : Type 0) {S A : Type 0} (Valid : S → Type 0) (next : S → Outcome → Decision S A) (k : Takes) (meaning : S → ℕ → Prog A) (sim : Simulates Valid next meaning) where
+module _ (all : Payloads) (C : Type 0) {S A : Type 0} (Valid : S → Type 0) (next : S → Outcome → Decision S A) (k : Takes) (meaning : S → ℕ → Prog A) (sim : Simulates Valid next meaning) where
   -- what is said of a step and of those behind it
   abbrev PutsFrom : List (Event C) → BusFrame → Payloads → Lent → Moved (Config S) A → Type 0
-  PutsFrom es frame p l m = StepPuts m.given frame p l m.left × PutsOver (frame_then m.given frame) (payloads_then m.given frame p) (goes_on (machine next C) m.flash es)
+  PutsFrom es frame p l m = StepPuts all m.given frame p l m.left × PutsOver all (frame_then m.given frame) (payloads_then m.given frame p) (goes_on (machine next C) m.flash es)
 
   abbrev Putting : List (Event C) → Type 0
-  Putting es = (s : S) (t : Transfer) (stage : Stage) (o : Outcome) (frame : BusFrame) (p : Payloads) → Valid s → Stands (meaning s) frame p stage t o →
-      PutsOver frame p (goes_on (machine next C) (out k s (frame_at t stage o)) es)
+  Putting es = (s : S) (t : Transfer) (stage : Stage) (o : Outcome) (frame : BusFrame) (p : Payloads) → Valid s → Stands all (meaning s) frame p stage t o →
+      PutsOver all frame p (goes_on (machine next C) (out k s (frame_at t stage o)) es)
 
-  rest-puts : (es : List (Event C)) (frame : BusFrame) (p : Payloads) → PutsOver frame p (goes_on (machine next C) rest es)
+  rest-puts : (es : List (Event C)) (frame : BusFrame) (p : Payloads) → PutsOver all frame p (goes_on (machine next C) rest es)
   unfolding goes_on PutsOver
   rest-puts [] frame p = tt
   rest-puts (call c l ∷ es) frame p = tt
-  rest-puts (reply r bytes l ∷ es) frame p = (record { scratch = refl; callers = refl }, rest-puts es frame p)
+  rest-puts (reply r bytes l ∷ es) frame p = (record { scratch = refl; callers = refl; whole = tt }, rest-puts es frame p)
 
-  pub settled-puts : (es : List (Event C)) → Putting es → (d : Decision S A) (frame : BusFrame) (p : Payloads) (l : Lent) (buffer : List ℕ) → Onward Valid d → Pays p (tree meaning d) →
+  pub settled-puts : (es : List (Event C)) → Putting es → (d : Decision S A) (frame : BusFrame) (p : Payloads) (l : Lent) (buffer : List ℕ) → Onward Valid d → Pays all p (tree meaning d) →
       PutsFrom es frame p l (settle k d (lent_as l.scratch buffer l))
   unfolding first_of
   settled-puts es ih (more t s) frame p l buffer w h =
       rw (first-shown t l.scratch l.given)
-      (record { scratch = first-puts t frame p l.given l.scratch; callers = refl }, ih s t Stage.Start (Ok 0) _ _ w (first-stands (meaning s) t frame p (Ok 0) h))
-  settled-puts es ih (well a) frame p l buffer w h = (record { scratch = refl; callers = refl }, rest-puts es frame p)
-  settled-puts es ih (bad e) frame p l buffer w h = (record { scratch = refl; callers = refl }, rest-puts es frame p)
+      (record { scratch = first-puts t frame p l.given l.scratch; callers = refl; whole = tt }, ih s t Stage.Start (Ok 0) _ _ w (first-stands all (meaning s) t frame p (Ok 0) h))
+  settled-puts es ih (well a) frame p l buffer w h = (record { scratch = refl; callers = refl; whole = h }, rest-puts es frame p)
+  settled-puts es ih (bad e) frame p l buffer w h = (record { scratch = refl; callers = refl; whole = tt }, rest-puts es frame p)
 
   module _ (es : List (Event C)) (ih : Putting es) (s : S) (w : Valid s) (f : Frame) (frame : BusFrame) (p : Payloads) (r : Reply) (bytes : List ℕ) (l : Lent) (ready : ready_for k l ≡ true) where
     abbrev delivered : List ℕ
@@ -195,27 +195,27 @@ module _ (C : Type 0) {S A : Type 0} (Valid : S → Type 0) (next : S → Outcom
     abbrev long : Long l.scratch
     long = long-scratch k l ready
 
-    goes : (o : Outcome) → PaysOn (meaning s) p o → Onward Valid (next s o) × Pays p (tree meaning (next s o))
-    goes (Ok v) h = (sim.keeps s v w, subst (Pays p) (sim.on_value s v w) (h v))
+    goes : (o : Outcome) → PaysOn all (meaning s) p o → Onward Valid (next s o) × Pays all p (tree meaning (next s o))
+    goes (Ok v) h = (sim.keeps s v w, subst (Pays all p) (sim.on_value s v w) (h v))
     goes (Err error) h = rw (sim.on_failure s error) (tt, tt)
 
-    fitting-puts : (x : Advanced) → PutsBy (meaning s) l.given l.scratch long frame p x →
+    fitting-puts : (x : Advanced) → PutsBy all (meaning s) l.given l.scratch long frame p x →
         PutsFrom es frame p l (moved next k s f (gave x l.scratch delivered).exchanged l (gave x l.scratch delivered).scratch (gave x l.scratch delivered).buffer)
     unfolding given_scratch
     fitting-puts (Advanced.More g) h =
-        rw (shown-bytes.shows g l.scratch l.given long) (record { scratch = h.0; callers = refl }, ih s g.transfer g.stage g.outcome _ _ w h.1)
+        rw (shown-bytes.shows g l.scratch l.given long) (record { scratch = h.0; callers = refl; whole = tt }, ih s g.transfer g.stage g.outcome _ _ w h.1)
     fitting-puts (Advanced.Over o) h = settled-puts es ih (next s o) frame p l delivered (goes o h).0 (goes o h).1
 
   pub puts-over : (es : List (Event C)) → Putting es
   unfolding goes_on PutsOver exchange_of advanced_of
   puts-over [] s t stage o frame p w h = tt
-  puts-over (call c l ∷ es) s t stage o frame p w h = (record { scratch = refl; callers = refl }, puts-over es s t stage o frame p w h)
+  puts-over (call c l ∷ es) s t stage o frame p w h = (record { scratch = refl; callers = refl; whole = tt }, puts-over es s t stage o frame p w h)
   puts-over (reply r bytes l ∷ es) s t stage o frame p w h =
       let f = frame_at t stage o in
       by_cases (ready_for k l)
       (λ ready. by_cases (fits_of (action_of f) r (length bytes))
       (λ fits. rw (ready, fits)
       (fitting-puts es (puts-over es) s w f frame p r bytes l ready (advanced_of f r bytes l.given)
-      (puts-by (meaning s) l.given l.scratch (long-scratch k l ready) frame p stage t o r bytes h fits)))
-      (λ fits. rw (ready, fits) (record { scratch = refl; callers = refl }, puts-over es s t stage o frame p w h)))
-      (λ ready. rw ready (record { scratch = refl; callers = refl }, puts-over es s t stage o frame p w h))
+      (puts-by all (meaning s) l.given l.scratch (long-scratch k l ready) frame p stage t o r bytes h fits)))
+      (λ fits. rw (ready, fits) (record { scratch = refl; callers = refl; whole = tt }, puts-over es s t stage o frame p w h)))
+      (λ ready. rw ready (record { scratch = refl; callers = refl; whole = tt }, puts-over es s t stage o frame p w h))

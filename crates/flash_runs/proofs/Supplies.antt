@@ -146,7 +146,7 @@ module _ {F C S P A : Type 0} (driver : Driver F C S A) (parts : Parts S P A C) 
     pub never : (s : S) (c : C) (b d : ℕ) → Bounds driver s c b d → driver.can_end s c b d ≡ false → Never (driver.program s c b d)
     pub lent : (s : S) (c : C) (b d : ℕ) → Bounds driver s c b d → LendsAs driver s c b d (takes_of (driver.sort c b d))
     pub dataless : (s : S) (c : C) (b d : ℕ) → Bounds driver s c b d → LooksAs driver s c b d (takes_of (driver.sort c b d))
-    pub pays : (s : S) (c : C) (b d : ℕ) → Bounds driver s c b d → Pays (payloads_of (takes_of (driver.sort c b d)) (driver.stamps s c)) (driver.program s c b d)
+    pub pays : (s : S) (c : C) (b d : ℕ) → Bounds driver s c b d → let all = payloads_of (takes_of (driver.sort c b d)) (driver.stamps s c) in Pays all all (driver.program s c b d)
 
 -- all that is known of a driver
 pub record Known {F C S A : Type 0} (driver : Driver F C S A) : Type 1 where

@@ -48,8 +48,9 @@ module _ {F C S A : Type 0} (driver : Driver F C S A) where
     -- ---- the scratch, the data and select
 
     -- what a step gives out is put at its places of the scratch, the rest stays, and so do the caller's data; behind commands go parts of
-    -- the caller's data where the call takes them, and else the bad-block mark that the call puts
-    pub scratch : (flash : F) (call : C) (l : Lent) (es : List (Event C)) → PutsOver closed (payloads_of (takes_at driver call l) (driver.stamps (driver.setup flash) call)) (run_at driver flash call l es)
+    -- the caller's data where the call takes them, and else the bad-block mark that the call puts, at a good end whole or not at all
+    pub scratch : (flash : F) (call : C) (l : Lent) (es : List (Event C)) → let all = payloads_of (takes_at driver call l) (driver.stamps (driver.setup flash) call) in
+        PutsOver all closed all (run_at driver flash call l es)
     -- every call ends with select high, whatever it was before
     pub ends_high : (flash : F) (call : C) (l : Lent) (es : List (Event C)) → EndsHigh false (run_at driver flash call l es)
     -- after a bus error select goes high, and the call fails with the error's code

@@ -6,7 +6,7 @@ use Rattle.std.proofs.Math.Seq.{paste}
 use Rattle.qspi.specs.Bytes.{part_of}
 use Rattle.qspi.specs.Shown.{Shown, low, high, write, read, quad_read, quad_write, delay}
 use Rattle.spi_flash.specs.Loan.{Lent}
-use Rattle.spi_flash.specs.Run.{Given, act, Entry}
+use Rattle.spi_flash.specs.Run.{Given, act, ended, Entry}
 use Rattle.spi_flash.specs.Seen.{lent_to}
 use Rattle.spi_flash.specs.declared.loan.Takes.{Takes}
 use Rattle.flash_runs.specs.Watch.{BusFrame, closed, selected, commanded, frame_after}
@@ -105,13 +105,26 @@ abbrev pub payloads_then : {A : Type 0} → Given A → BusFrame → Payloads �
 payloads_then (act shown) frame payloads = payloads_after shown frame payloads
 payloads_then _ frame payloads = payloads
 
--- a step that was lent this
-pub record StepPuts {A : Type 0} (given : Given A) (frame : BusFrame) (payloads : Payloads) (lent left : Lent) : Type 0 where
-  pub scratch : puts_then given frame payloads lent.given lent.scratch left.scratch
-  pub callers : left.given ≡ lent.given
+-- of all that the call has to give out, with this left: no mark is put in part
+abbrev pub AllOrNone : (all left : Payloads) → Type 0
+AllOrNone all (stamps []) = Unit {0}
+AllOrNone all left = left ≡ all
 
--- every step of a run
-unfoldable pub PutsOver : {C A : Type 0} → BusFrame → Payloads → List (Entry C A) → Type 0
-PutsOver frame payloads [] = Unit {0}
-PutsOver frame payloads (x ∷ xs) =
-    StepPuts x.given frame payloads (lent_to x.event) x.left × PutsOver (frame_then x.given frame) (payloads_then x.given frame payloads) xs
+abbrev pub ends_then : {A : Type 0} → Given A → Type 0 → Type 0
+ends_then (ended a) P = P
+ends_then _ P = Unit {0}
+
+-- of a call that has all this to give out
+module _ (all : Payloads) where
+  -- a step that was lent this
+  pub record StepPuts {A : Type 0} (given : Given A) (frame : BusFrame) (payloads : Payloads) (lent left : Lent) : Type 0 where
+    pub scratch : puts_then given frame payloads lent.given lent.scratch left.scratch
+    pub callers : left.given ≡ lent.given
+    -- a good end
+    pub whole : ends_then given (AllOrNone all payloads)
+
+  -- every step of a run
+  unfoldable pub PutsOver : {C A : Type 0} → BusFrame → Payloads → List (Entry C A) → Type 0
+  PutsOver frame payloads [] = Unit {0}
+  PutsOver frame payloads (x ∷ xs) =
+      StepPuts x.given frame payloads (lent_to x.event) x.left × PutsOver (frame_then x.given frame) (payloads_then x.given frame payloads) xs

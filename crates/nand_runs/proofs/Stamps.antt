@@ -15,7 +15,7 @@ use Rattle.spi_flash.proofs.Laws.{bounded-more, bounded-then, bounded-bind, boun
 use Rattle.spi_flash.proofs.Unread.{none-delayed}
 use Rattle.flash_runs.specs.Driver.{takes_of}
 use Rattle.flash_runs.specs.Scratch.{Stamp, filler, marker, Payloads, callers, stamps, payloads_of}
-use Rattle.flash_runs.proofs.Payloads.{PaysBy, Pays, payload_weight, stamp_weight, pays-none, pays-bind, pays-then, pays-callers, pays-ended, Spends, pays-spent, spends-then}
+use Rattle.flash_runs.proofs.Payloads.{PaysBy, Pays, payload_weight, stamp_weight, none-given, pays-none, pays-bind, pays-then, pays-callers, pays-ended, Spends, pays-spent, spends-then}
 use Rattle.flash_runs.proofs.Supplies.{Bounds}
 use Rattle.flash_runs.proofs.Weighing.{Weighs, payload_figures, stamp_figures, payloads-weigh, stamps-weigh}
 use Rattle.spi_nand.specs.Command.{get_feature_command}
@@ -101,39 +101,39 @@ module _ (s : Setup) where
         (fills-page k (column + m) (left - m) (omega arith) (omega arith))))
         (λ e. let none : left ≡ 0 = omega (arith, ltb-false column page e) in rw (e, none) refl))
 
-  pays-if : (p : Payloads) (b : Bool) (x y : Prog Nothing) → Pays p x → Pays p y → Pays p (if b then x else y)
-  pays-if p true x y h k = h
-  pays-if p false x y h k = k
+  pays-if : (all p : Payloads) (b : Bool) (x y : Prog Nothing) → Pays all p x → Pays all p y → Pays all p (if b then x else y)
+  pays-if all p true x y h k = h
+  pays-if all p false x y h k = k
 
-  pays-mark : (block : ℕ) → Pays (stamps (chunks page ++ marker ∷ [])) (mark-bad-block s block)
+  pays-mark : (block : ℕ) → let all = stamps (chunks page ++ marker ∷ []) in Pays all all (mark-bad-block s block)
   unfolding mark-bad-block
   pays-mark block =
       let p : Payloads = stamps (chunks page ++ marker ∷ []) in
       let mark : Payloads = stamps (marker ∷ []) in
-      pays-then p (check-block s block) _ (bounded-refuse _ _)
-      (pays-bind p (is-bad-block s block) _ (bounded-more (omega arith) (bounded-is-bad unpaid-figures s block))
-      (λ bad. pays-if p bad (ret tt) _ tt
-      (pays-then p (erase-block s block) _ (bounded-more (omega arith) (bounded-erase unpaid-figures s block))
-      (pays-then p write-enable _ (bounded-more (omega arith) (bounded-enable unpaid-figures))
-      (pays-spent p mark (filling s 0) _ (fills-page (marker ∷ []) page 0 page (omega arith) (omega arith))
-      (pays-spent mark (stamps []) (load-program-data s page 1 Payload.Marker) _ (spends-load page 1 Payload.Marker mark (stamps []) (λ v. refl))
-      (pays-none (stamps []) _
+      pays-then p p (check-block s block) _ (bounded-refuse _ _)
+      (pays-bind p p (is-bad-block s block) _ (bounded-more (omega arith) (bounded-is-bad unpaid-figures s block))
+      (λ bad. pays-if p p bad (ret tt) _ (none-given p)
+      (pays-then p p (erase-block s block) _ (bounded-more (omega arith) (bounded-erase unpaid-figures s block))
+      (pays-then p p write-enable _ (bounded-more (omega arith) (bounded-enable unpaid-figures))
+      (pays-spent p p mark (filling s 0) _ (fills-page (marker ∷ []) page 0 page (omega arith) (omega arith))
+      (pays-spent p mark (stamps []) (load-program-data s page 1 Payload.Marker) _ (spends-load page 1 Payload.Marker mark (stamps []) (λ v. refl))
+      (pays-none p (stamps []) _ tt
       (bounded-more (omega arith)
       (bounded-then (bounded-execute unpaid-figures s (first_page_of s.geometry block))
       (bounded-bind {c = 0} (bounded-is-bad unpaid-figures s block) (λ marked. bounded-refuse _ _)))))))))))
 
 -- ---- every call
 
-unpaid : (s : Setup) → in_bounds s.geometry ≡ true → (c : Call) (b d : ℕ) → weight_of payload_figures s c b ≤ 0 → Pays (stamps []) (program_of s c b d)
-unpaid s h c b d none = pays-none (stamps []) (program_of s c b d) (rw (same s h c b d) (bounded-more none (weighed unpaid-figures s h c b d)))
+unpaid : (s : Setup) → in_bounds s.geometry ≡ true → (c : Call) (b d : ℕ) → weight_of payload_figures s c b ≤ 0 → Pays (stamps []) (stamps []) (program_of s c b d)
+unpaid s h c b d none = pays-none (stamps []) (stamps []) (program_of s c b d) tt (rw (same s h c b d) (bounded-more none (weighed unpaid-figures s h c b d)))
 
-paid : (s : Setup) → in_bounds s.geometry ≡ true → (c : Call) (b d : ℕ) → weight_of stamp_figures s c b ≤ 0 → Pays callers (program_of s c b d)
+paid : (s : Setup) → in_bounds s.geometry ≡ true → (c : Call) (b d : ℕ) → weight_of stamp_figures s c b ≤ 0 → Pays callers callers (program_of s c b d)
 paid s h c b d none = pays-callers (program_of s c b d) (rw (same s h c b d) (bounded-more none (weighed unstamped-figures s h c b d)))
 
-pub pays : (s : Setup) (c : Call) (b d : ℕ) → Bounds nand_driver s c b d → Pays (payloads_of (takes_of (sort_of c b d)) (stamps_of s c)) (program_of s c b d)
+pub pays : (s : Setup) (c : Call) (b d : ℕ) → Bounds nand_driver s c b d → let all = payloads_of (takes_of (sort_of c b d)) (stamps_of s c) in Pays all all (program_of s c b d)
 unfolding sort_of coded_rust rust_program weight_of
-pays s Call.New b d h = pays-none (stamps []) _ (rw (same-construction s single_config b d) (bounded-more (omega arith) (weighed-construction unpaid-figures s single_config b d)))
-pays s (Call.WithConfig config) b d h = pays-none (stamps []) _ (rw (same-construction s config b d) (bounded-more (omega arith) (weighed-construction unpaid-figures s config b d)))
+pays s Call.New b d h = pays-none (stamps []) (stamps []) _ tt (rw (same-construction s single_config b d) (bounded-more (omega arith) (weighed-construction unpaid-figures s single_config b d)))
+pays s (Call.WithConfig config) b d h = pays-none (stamps []) (stamps []) _ tt (rw (same-construction s config b d) (bounded-more (omega arith) (weighed-construction unpaid-figures s config b d)))
 pays s Call.Info b d h = unpaid s h Call.Info b d (omega arith)
 pays s Call.Config b d h = unpaid s h Call.Config b d (omega arith)
 pays s Call.Geometry b d h = unpaid s h Call.Geometry b d (omega arith)
@@ -158,4 +158,4 @@ pays s (Call.WritePage page) b d h = paid s h (Call.WritePage page) b d (omega a
 pays s (Call.EraseBlock block) b d h = unpaid s h (Call.EraseBlock block) b d (omega arith)
 pays s (Call.Read offset) b d h = unpaid s h (Call.Read offset) b d (omega arith)
 pays s (Call.IsBadBlock block) b d h = unpaid s h (Call.IsBadBlock block) b d (omega arith)
-pays s (Call.MarkBadBlock block) b d h = rw (same s h (Call.MarkBadBlock block) b d) (pays-ended _ (mark-bad-block s block) _ (pays-mark s block))
+pays s (Call.MarkBadBlock block) b d h = rw (same s h (Call.MarkBadBlock block) b d) (pays-ended _ _ (mark-bad-block s block) _ (pays-mark s block))

@@ -174,11 +174,11 @@ unstamped-figures : Weighs stamp_weight stamp_figures wait-ready
 unfolding wait-ready
 unstamped-figures = stamps-weigh wait-ready (λ operation. none-waiting stamp_weight (λ c. omega arith) (λ us. omega arith) read_status1_command busy_value (timings_of operation))
 
-unpaid : (flash : Setup) (call : Call) (b d : ℕ) → Bounds nor_driver flash call b d → weight_of payload_figures flash call b d ≤ 0 → Pays (stamps []) (program_of flash call b d)
-unpaid flash call b d h none = pays-none (stamps []) (program_of flash call b d) (light unpaid-figures flash call b d h none)
+unpaid : (flash : Setup) (call : Call) (b d : ℕ) → Bounds nor_driver flash call b d → weight_of payload_figures flash call b d ≤ 0 → Pays (stamps []) (stamps []) (program_of flash call b d)
+unpaid flash call b d h none = pays-none (stamps []) (stamps []) (program_of flash call b d) tt (light unpaid-figures flash call b d h none)
 
 pub pays : (flash : Setup) (call : Call) (b d : ℕ) → Bounds nor_driver flash call b d →
-    Pays (payloads_of (takes_of (sort_of call b d)) []) (program_of flash call b d)
+    let all = payloads_of (takes_of (sort_of call b d)) [] in Pays all all (program_of flash call b d)
 unfolding weight_of
 pays flash Call.New b d h = unpaid flash Call.New b d h (omega arith)
 pays flash (Call.WithConfig config) b d h = unpaid flash (Call.WithConfig config) b d h (no-construction payload_figures (omega arith) (page_taken config.device) config.quad)
