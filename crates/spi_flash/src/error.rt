@@ -1,10 +1,10 @@
-// The errors of both drivers (spi_flash/error.rs), with the refusals that stepping and the tape add.
+//! The errors of both drivers (spi_flash/error.rs), with the refusals that stepping and the tape add.
 ghost use Rattle.std.specs.Prelude.{◌≡◌};
 ghost use Rattle.spi_flash.specs.Error.{error_number, kind_of};
 
 use qspi::bus::BusError;
 
-#[derive(Clone, Copy)]
+#[derive(Clone, Copy, Debug, PartialEq, Eq)]
 pub enum FlashError {
     // The bus failed, with its code.
     Spi(u8),

@@ -3,7 +3,7 @@ ghost use Rattle.std.specs.Prelude.{◌≡◌};
 ghost use Rattle.spi_flash.specs.Wait.{first_wait, next_wait};
 
 // Polling parameters in microseconds, as in nand/opcode.rs.
-#[derive(Clone, Copy)]
+#[derive(Clone, Copy, Debug)]
 pub struct Timings {
     pub initial_us: u32,
     pub poll_us: u32,
