@@ -36,7 +36,7 @@ use Rattle.flash_runs.proofs.Runs.{viewed, same-run, same-state}
 use Rattle.flash_runs.proofs.LeftBehind.{rest-state}
 
 -- what an action awaits is told by what it shows
-shown-awaits : (action : Action) (scratch given : List ℕ) → awaits (shown_of action scratch given) ≡ awaits_of action
+pub shown-awaits : (action : Action) (scratch given : List ℕ) → awaits (shown_of action scratch given) ≡ awaits_of action
 shown-awaits Action.SelectLow s g = refl
 shown-awaits Action.SelectHigh s g = refl
 shown-awaits (Action.Write part) s g = refl

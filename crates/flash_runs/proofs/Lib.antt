@@ -23,6 +23,7 @@ pub mod Scratch
 pub mod Bills
 pub mod Lent
 pub mod Judged
+pub mod Heeding
 pub mod Promises
 pub mod Watching
 pub mod WatchedRuns

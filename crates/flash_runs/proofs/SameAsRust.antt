@@ -8,7 +8,8 @@ use mathlib.Core.Path.{◌≡◌, refl, ap, ap₂, sym, ◌∙◌, subst}
 use mathlib.Core.List.{List, [], ◌∷◌, map}
 use lib.ListN.{length}
 use Rattle.spi_flash.specs.Loan.{Lent}
-use Rattle.qspi.specs.Frame.{first_of}
+use Rattle.qspi.specs.Frame.{first_of, action_of}
+use Rattle.qspi.specs.Shown.{shown_of}
 use Rattle.spi_flash.specs.Prog.{Prog, ask}
 use Rattle.spi_flash.specs.Path.{Bounded}
 use Rattle.spi_flash.specs.Machine.{out, machine}
@@ -20,12 +21,15 @@ use Rattle.spi_flash.proofs.Dataless.{data_uses}
 use Rattle.spi_flash.proofs.Performs.{Looks, looks_then, looking, looking-whole, looking-given, performs}
 use Rattle.spi_flash.proofs.Heeded.{Closed, closed-whole, fitting-told, Heeds, heeds}
 use Rattle.flash_runs.specs.Driver.{Left, Sort, constructs, tells, releases, uses, Driver, sort_at, takes_at, program_at, steps_at}
-use Rattle.flash_runs.specs.SameAsRust.{LendsData, Ready, Steady, Regular, accepted_at, rust_call, driver_of, left_then, left_by, driver_after, Turn, turn_steps, turn_after, EachTurn, each_turn, Orderly, session, accepted_turn, turn_gives, holding, rust_turn, rust_session, SameAsRust}
+use Rattle.flash_runs.specs.Heeding.{heeding}
+use Rattle.flash_runs.specs.SameAsRust.{LendsData, Ready, Steady, Regular, rust_call, rust_heeding, driver_of, left_then, left_by, driver_after, Turn, turn_steps, turn_after, EachTurn, each_turn, Orderly, session, turn_gives, holding, rust_turn, heeding_turn, rust_session, SameAsRust}
 use Rattle.flash_runs.proofs.General.{Opening, constructing, telling, releasing, working, Parts, Flash, decide_next}
 use Rattle.flash_runs.proofs.Supplies.{LooksAs, OpensAs, Known}
 use Rattle.flash_runs.proofs.Runs.{same-call}
 use Rattle.flash_runs.proofs.Views.{shape, driven, Opens, Answered, gives, turns, usable, on_machine, opens-call}
 use Rattle.flash_runs.proofs.LeftBehind.{left}
+use Rattle.flash_runs.proofs.Heeding.{goes-on, heeds-fitting}
+use Rattle.flash_runs.proofs.Judged.{shown-awaits}
 
 no_tells : {S : Type 0} {s : S} → ◌≡◌ {A = Sort S} tells (constructs s) → ⊥
 no_tells h = let z : ◌≡◌ {A = ℕ} 0 1 = cc in omega arith
@@ -91,20 +95,24 @@ module _ {F C S A : Type 0} {driver : Driver F C S A} (known : Known driver) whe
     abbrev heeded : List (Entry C (Left S A)) → List Answer
     heeded xs = replies_of (events_of (accepted xs))
 
-    -- what these steps come to, refused ones passed over, is what the program does
+    -- what these steps come to, refused ones passed over, is what the program does on the events that fit
+    abbrev Heeding : Bool → Prog (Left S A) → List (Entry C (Left S A)) → Type 0
+    Heeding whole p xs = looking whole (told (accepted xs)) ≡ looking whole (heeding (takes_at driver c l) (program_on_bus l.given p) es l.buffer)
+
+    -- and on the replies that were taken
     abbrev Does : Bool → Prog (Left S A) → List (Entry C (Left S A)) → Type 0
     Does whole p xs = looking whole (told (accepted xs)) ≡ looking whole (performed (program_on_bus l.given p) (heeded xs) l.buffer)
 
     -- ---- a call that ends at once
 
-    answered-does : (whole : Bool) → Answered known (shape known flash) c l → Does whole program steps
-    unfolding told call_of accepted program_on_bus performed
-    answered-does whole (gives a u n p e k) =
-        subst (Does whole program) (sym (same-call driver parts known.is flash c l es))
-        (subst (λ m. Does whole program (opening c l m ∷ goes_on driving m.flash es)) (sym e) (rw p refl))
-    answered-does whole (turns x takes p e k) =
-        subst (Does whole program) (sym (same-call driver parts known.is flash c l es))
-        (subst (λ m. Does whole program (opening c l m ∷ goes_on driving m.flash es)) (sym e) (rw p refl))
+    answered-heeding : (whole : Bool) → Answered known (shape known flash) c l → Heeding whole program steps
+    unfolding told call_of accepted program_on_bus heeding
+    answered-heeding whole (gives a u n p e k) =
+        subst (Heeding whole program) (sym (same-call driver parts known.is flash c l es))
+        (subst (λ m. Heeding whole program (opening c l m ∷ goes_on driving m.flash es)) (sym e) (rw p refl))
+    answered-heeding whole (turns x takes p e k) =
+        subst (Heeding whole program) (sym (same-call driver parts known.is flash c l es))
+        (subst (λ m. Heeding whole program (opening c l m ∷ goes_on driving m.flash es)) (sym e) (rw p refl))
 
     answered-same : Answered known (shape known flash) c l → told steps ≡ rust_call driver setup c l es
     unfolding told call_of program_on_bus performed
@@ -143,6 +151,20 @@ module _ {F C S A : Type 0} {driver : Driver F C S A} (known : Known driver) whe
           performs C known.Valid (decide_next parts) taking known.meaning known.supplies.simulates l.given whole o.first o.at es l o.valid refl
           (lends (known.supplies.dataless setup c (length l.buffer) (length l.given) o.bounds) same) (looks_then whole (λ h. h.1) still)
 
+      machine-heeding : (whole : Bool) → LendsData taking l.given (on_machine known o es) → Looks whole (Undisturbed l.buffer (on_machine known o es)) → Heeding whole begun (on_machine known o es)
+      unfolding told accepted
+      machine-heeding whole same still =
+          let one = machine-does whole same still in
+          one ∙ sym (goes-on (decide_next parts) taking whole es (heeds-fitting (decide_next parts) taking whole es) o.at (first_of o.first) (shown_of (action_of (first_of o.first)) l.scratch l.given)
+          (shown-awaits _ _ _) l.buffer (program_on_bus l.given begun) l.buffer one)
+
+      opened-heeding : (whole : Bool) → LendsData taking l.given steps → Looks whole (Undisturbed l.buffer steps) → Heeding whole program steps
+      opened-heeding whole same still =
+          let e = opens-call known flash o es in
+          subst (Heeding whole program) (sym e)
+          (subst (λ p. Heeding whole p (on_machine known o es)) (sym o.program)
+          (machine-heeding whole (subst (LendsData taking l.given) e same) (subst (λ xs. Looks whole (Undisturbed l.buffer xs)) e still)))
+
       pub opened-does : (whole : Bool) → LendsData taking l.given steps → Looks whole (Undisturbed l.buffer steps) → Does whole program steps
       opened-does whole same still =
           let e = opens-call known flash o es in
@@ -156,15 +178,15 @@ module _ {F C S A : Type 0} {driver : Driver F C S A} (known : Known driver) whe
       enough xs (inl e) p h = ap (λ rs. performed p rs l.buffer) e
       enough xs (inr c) p h = sym (ap (λ rs. performed p rs l.buffer) (sym c.1.whole) ∙ closed-whole p (heeded xs) c.1.rest l.buffer (subst (λ x. x) h c.0))
 
-    does : (whole : Bool) → Steady driver flash c l es → Looks whole (Undisturbed l.buffer steps) → Does whole program steps
-    does whole h still = ⊎_elim (answered-does whole) (λ o. opened-does o whole h.same_data still) (usable known flash c l h.usable)
-
     -- every call
-    gives-same : Steady driver flash c l es → gives_of (told (accepted steps)) ≡ gives_of (rust_call driver setup c l (accepted_at driver flash c l es))
-    gives-same h = sym (looking-given _) ∙ ap gives_of (does false h tt) ∙ looking-given _
+    heeds-all : (whole : Bool) → Steady driver flash c l es → Looks whole (Undisturbed l.buffer steps) → Heeding whole program steps
+    heeds-all whole h still = ⊎_elim (answered-heeding whole) (λ o. opened-heeding o whole h.same_data still) (usable known flash c l h.usable)
 
-    delivers : Steady driver flash c l es → Undisturbed l.buffer steps → told (accepted steps) ≡ rust_call driver setup c l (accepted_at driver flash c l es)
-    delivers h still = sym (looking-whole _) ∙ does true h still ∙ looking-whole _
+    gives-same : Steady driver flash c l es → gives_of (told (accepted steps)) ≡ gives_of (rust_heeding driver setup c l es)
+    gives-same h = sym (looking-given _) ∙ ap gives_of (heeds-all false h tt) ∙ looking-given _
+
+    delivers : Steady driver flash c l es → Undisturbed l.buffer steps → told (accepted steps) ≡ rust_heeding driver setup c l es
+    delivers h still = sym (looking-whole _) ∙ heeds-all true h still ∙ looking-whole _
 
     steady : Regular driver flash c l es → Steady driver flash c l es
     steady h = record { usable = h.usable; same_data = at (takes_at driver c l) }
@@ -178,7 +200,7 @@ module _ {F C S A : Type 0} {driver : Driver F C S A} (known : Known driver) whe
     unfolding told Fitting accepted
     opened-same o h =
         let e = opens-call known flash o es in
-        let one = sym (fitting-told steps h.fitting) ∙ delivers (steady h) h.undisturbed in
+        let one = sym (fitting-told steps h.fitting) ∙ sym (looking-whole _) ∙ opened-does o true (steady h).same_data h.undisturbed ∙ looking-whole _ in
         let all = heeds (decide_next parts) (takes_at driver c l) o.at (first_of o.first) es (subst Fitting e h.fitting) in
         one ∙ enough o steps (subst (Heeds (decide_next parts) (takes_at driver c l) es) (sym e) all) (program_on_bus l.given program) (ap Closed one)
 
@@ -212,31 +234,31 @@ module _ {F C S A : Type 0} {driver : Driver F C S A} (known : Known driver) whe
       same flash x.call x.lent x.events h
       ∙ rust-is (driver.setup flash) x.call x.lent x.events _ (held (sort_at driver x.call x.lent) flash x.call x.lent refl h.usable.ready)
 
-  sessions : (flash : F) (turns : List (Turn C)) → Orderly driver flash turns → session driver flash turns ≡ rust_session driver (driver_of driver flash) turns
+  sessions : (flash : F) (turns : List (Turn C)) → Orderly driver flash turns → session driver flash turns ≡ rust_session driver (rust_turn driver) (driver_of driver flash) turns
   unfolding EachTurn each_turn rust_session
   sessions flash [] h = refl
   sessions flash (x ∷ xs) h =
       let head = turn-same flash x h.0 in
       ap₂ (λ a b. a ∷ b) head
       (sessions (turn_after driver flash x) xs h.1
-      ∙ ap (λ before. rust_session driver before xs)
+      ∙ ap (λ before. rust_session driver (rust_turn driver) before xs)
       (left known flash x.call x.lent x.events h.0.usable
       ∙ ap (λ steps. driver_after (sort_at driver x.call x.lent) (driver_of driver flash) (left_by steps)) head))
 
-  pub turn-gives : (flash : F) (x : Turn C) → Steady driver flash x.call x.lent x.events → turn_gives driver flash x ≡ gives_of (rust_turn driver (driver_of driver flash) (accepted_turn driver flash x))
+  pub turn-gives : (flash : F) (x : Turn C) → Steady driver flash x.call x.lent x.events → turn_gives driver flash x ≡ gives_of (heeding_turn driver (driver_of driver flash) x)
   turn-gives flash x h =
       gives-same flash x.call x.lent x.events h
-      ∙ ap gives_of (rust-is (driver.setup flash) x.call x.lent (accepted_at driver flash x.call x.lent x.events) _ (held (sort_at driver x.call x.lent) flash x.call x.lent refl h.usable.ready))
+      ∙ ap (λ p. gives_of (heeding (takes_at driver x.call x.lent) (program_on_bus x.lent.given p) x.events x.lent.buffer)) (held (sort_at driver x.call x.lent) flash x.call x.lent refl h.usable.ready)
 
   steady-sessions : (flash : F) (turns : List (Turn C)) → EachTurn driver (λ flash x. Steady driver flash x.call x.lent x.events) flash turns →
-      each_turn driver (turn_gives driver) flash turns ≡ map gives_of (rust_session driver (driver_of driver flash) (each_turn driver (accepted_turn driver) flash turns))
+      each_turn driver (turn_gives driver) flash turns ≡ map gives_of (rust_session driver (heeding_turn driver) (driver_of driver flash) turns)
   unfolding EachTurn each_turn rust_session
   steady-sessions flash [] h = refl
   steady-sessions flash (x ∷ xs) h =
       let head = turn-gives flash x h.0 in
       ap₂ (λ a b. a ∷ b) head
       (steady-sessions (turn_after driver flash x) xs h.1
-      ∙ ap (λ before. map gives_of (rust_session driver before (each_turn driver (accepted_turn driver) (turn_after driver flash x) xs)))
+      ∙ ap (λ before. map gives_of (rust_session driver (heeding_turn driver) before xs))
       (left known flash x.call x.lent x.events h.0.usable
       ∙ ap (driver_after (sort_at driver x.call x.lent) (driver_of driver flash)) (left-as (turn_steps driver flash x) _ head)))
 

@@ -3,6 +3,7 @@ pub mod WithinBound
 pub mod Begins
 pub mod LentBytes
 pub mod Refusals
+pub mod Heeding
 pub mod SameAsRust
 pub mod Built
 pub mod Shams

@@ -6,9 +6,10 @@ use Rattle.qspi.specs.Choice.{pick}
 use Rattle.qspi.specs.Command.{scratch_least}
 use Rattle.spi_flash.specs.Loan.{Lent}
 use Rattle.spi_flash.specs.Run.{Event, Entry, Given, act, ended, failed, refused, Fitting}
-use Rattle.spi_flash.specs.Seen.{Did, told, gives_of, replies_of, accepted, events_of, SameData, Undisturbed}
+use Rattle.spi_flash.specs.Seen.{Did, told, gives_of, replies_of, accepted, SameData, Undisturbed}
 use Rattle.spi_flash.specs.declared.loan.Takes.{Takes}
 use Rattle.spi_flash.specs.OnBus.{program_on_bus, performed}
+use Rattle.flash_runs.specs.Heeding.{heeding}
 use Rattle.flash_runs.specs.Driver.{Left, Sort, constructs, tells, releases, uses, Driver, sort_at, takes_at, program_at, bounded_at, steps_at, flash_after}
 
 -- ---- what is left behind
@@ -79,13 +80,13 @@ module _ {F C S A : Type 0} (driver : Driver F C S A) where
     pub same_data : SameData l.given (steps_at driver flash call l es)
     pub undisturbed : Undisturbed l.buffer (steps_at driver flash call l es)
 
-  -- the events that were not refused
-  abbrev pub accepted_at : F → C → Lent → List (Event C) → List (Event C)
-  accepted_at flash call l es = events_of (accepted (steps_at driver flash call l es))
-
   -- what the program of the call does on the same replies: each action with its bytes, then its result, and the buffer after each
   abbrev pub rust_call : S → C → Lent → List (Event C) → List (Did (Left S A))
   rust_call setup call l es = performed (program_on_bus l.given (program_at driver setup call l)) (replies_of es) l.buffer
+
+  -- and what it does on any events, of which it passes over those that do not fit
+  abbrev pub rust_heeding : S → C → Lent → List (Event C) → List (Did (Left S A))
+  rust_heeding setup call l es = heeding (takes_at driver call l) (program_on_bus l.given (program_at driver setup call l)) es l.buffer
 
   abbrev pub driver_of : F → Option S
   driver_of flash = pick (driver.built flash) (some (driver.setup flash)) none
@@ -112,10 +113,6 @@ module _ {F C S A : Type 0} (driver : Driver F C S A) where
   abbrev pub session : F → List (Turn C) → List (List (Did (Left S A)))
   session flash turns = each_turn (λ flash x. told (turn_steps flash x)) flash turns
 
-  -- with the events alone that were not refused
-  abbrev pub accepted_turn : F → Turn C → Turn C
-  accepted_turn flash x = record { call = x.call; lent = x.lent; events = accepted_at flash x.call x.lent x.events }
-
   -- what is given, refusals passed over
   abbrev pub turn_gives : F → Turn C → List (Given (Left S A))
   turn_gives flash x = gives_of (told (accepted (turn_steps flash x)))
@@ -123,28 +120,31 @@ module _ {F C S A : Type 0} (driver : Driver F C S A) where
   abbrev pub rust_turn : Option S → Turn C → List (Did (Left S A))
   rust_turn before x = rust_call (holding driver.blank before) x.call x.lent x.events
 
-  unfoldable pub rust_session : Option S → List (Turn C) → List (List (Did (Left S A)))
-  rust_session before [] = []
-  rust_session before (x ∷ xs) =
-      rust_turn before x ∷ rust_session (driver_after (sort_at driver x.call x.lent) before (left_by (rust_turn before x))) xs
+  abbrev pub heeding_turn : Option S → Turn C → List (Did (Left S A))
+  heeding_turn before x = rust_heeding (holding driver.blank before) x.call x.lent x.events
+
+  -- of turns that come to this
+  unfoldable pub rust_session : (Option S → Turn C → List (Did (Left S A))) → Option S → List (Turn C) → List (List (Did (Left S A)))
+  rust_session turn before [] = []
+  rust_session turn before (x ∷ xs) = turn before x ∷ rust_session turn (driver_after (sort_at driver x.call x.lent) before (left_by (turn before x))) xs
 
   -- ---- the statement
 
   pub record SameAsRust : Type 0 where
-    -- every action with its bytes, and every result, on the replies that were not refused, whoever writes into the buffer
+    -- every action with its bytes, and every result, refusals passed over, whoever writes into the buffer
     pub gives : (flash : F) (call : C) (l : Lent) (es : List (Event C)) → Steady flash call l es →
-        gives_of (told (accepted (steps_at driver flash call l es))) ≡ gives_of (rust_call (driver.setup flash) call l (accepted_at flash call l es))
+        gives_of (told (accepted (steps_at driver flash call l es))) ≡ gives_of (rust_heeding (driver.setup flash) call l es)
     -- and every delivered byte, where nobody else writes there: the whole buffer after each step
     pub delivers : (flash : F) (call : C) (l : Lent) (es : List (Event C)) → Steady flash call l es → Undisturbed l.buffer (steps_at driver flash call l es) →
-        told (accepted (steps_at driver flash call l es)) ≡ rust_call (driver.setup flash) call l (accepted_at flash call l es)
-    -- where no reply is refused these are all the replies
+        told (accepted (steps_at driver flash call l es)) ≡ rust_heeding (driver.setup flash) call l es
+    -- where none is refused, on all the replies
     pub same : (flash : F) (call : C) (l : Lent) (es : List (Event C)) → Regular flash call l es →
         told (steps_at driver flash call l es) ≡ rust_call (driver.setup flash) call l es
     -- and so is the driver left behind, whatever the events
     pub left : (flash : F) (call : C) (l : Lent) (es : List (Event C)) → Usable flash call l →
         driver_of (flash_after driver flash call l es) ≡ driver_after (sort_at driver call l) (driver_of flash) (left_by (told (steps_at driver flash call l es)))
     -- so that the equality carries over any sequence of calls
-    pub sessions : (flash : F) (turns : List (Turn C)) → Orderly flash turns → session flash turns ≡ rust_session (driver_of flash) turns
+    pub sessions : (flash : F) (turns : List (Turn C)) → Orderly flash turns → session flash turns ≡ rust_session rust_turn (driver_of flash) turns
     -- refused events and disturbed buffers among them
     pub steady_sessions : (flash : F) (turns : List (Turn C)) → EachTurn (λ flash x. Steady flash x.call x.lent x.events) flash turns →
-        each_turn turn_gives flash turns ≡ map gives_of (rust_session (driver_of flash) (each_turn accepted_turn flash turns))
+        each_turn turn_gives flash turns ≡ map gives_of (rust_session heeding_turn (driver_of flash) turns)

@@ -48,11 +48,11 @@ long-scratch k l h = by_cases (ltb (length l.scratch) scratch_least) (λ e. absu
 
 -- ---- a program that does something first
 
-performed_then : {A : Type 0} → (Answer → BusProg A) → List Answer → List ℕ → List (Did A)
+unfoldable pub performed_then : {A : Type 0} → (Answer → BusProg A) → List Answer → List ℕ → List (Did A)
 performed_then k [] buffer = []
 performed_then k (r ∷ rs) buffer = performed (k r) rs buffer
 
-does-first : {A : Type 0} (shown : Shown) (k : Answer → BusProg A) (rs : List Answer) (buffer : List ℕ) →
+pub does-first : {A : Type 0} (shown : Shown) (k : Answer → BusProg A) (rs : List Answer) (buffer : List ℕ) →
     performed (does shown k) rs buffer ≡ did (act shown) buffer ∷ performed_then k rs buffer
 unfolding performed performed_then
 does-first shown k [] buffer = refl
@@ -100,13 +100,13 @@ alike-buffers false p rs x y h = any-buffer p rs x y
 -- ---- what a step takes
 
 -- a step that is not refused
-abbrev Takes-it : {A : Type 0} → Given A → Type 0
+abbrev pub Takes-it : {A : Type 0} → Given A → Type 0
 Takes-it (act shown) = Unit {0}
 Takes-it (ended a) = Unit {0}
 Takes-it (failed e) = Unit {0}
 Takes-it (refused e) = ⊥
 
-counts : {A B : Type 0} (g : Given A) → Takes-it g → (x y : B) → unless_refused g x y ≡ x
+pub counts : {A B : Type 0} (g : Given A) → Takes-it g → (x y : B) → unless_refused g x y ≡ x
 counts (act shown) h x y = refl
 counts (ended a) h x y = refl
 counts (failed e) h x y = refl
@@ -118,7 +118,7 @@ taken-it (ended a) h P x = x
 taken-it (failed e) h P x = x
 taken-it (refused e) h P x = absurd h
 
-settle-takes : {S A : Type 0} (k : Takes) (d : Decision S A) (l : Lent) → Takes-it (settle k d l).given
+pub settle-takes : {S A : Type 0} (k : Takes) (d : Decision S A) (l : Lent) → Takes-it (settle k d l).given
 settle-takes k (more t s) l = tt
 settle-takes k (well a) l = tt
 settle-takes k (bad e) l = tt
