@@ -34,4 +34,5 @@ pub mod AtOnce
 pub mod Contents
 pub mod NoRun
 pub mod EndsAsking
+pub mod Compared
 pub mod WatchedCalls

@@ -4,13 +4,9 @@ use native.Mathlib.Omega.{arith}
 use mathlib.Core.Bool.{Bool, true, false}
 use mathlib.Core.Path.{◌≡◌, refl, ap, sym, ◌∙◌}
 use mathlib.Core.List.{List, [], ◌∷◌, ◌++◌}
-use lib.ListN.{length, take, drop}
+use lib.ListN.{length, take}
 use lib.Dec.{eqb}
 use Rattle.std.specs.Prelude.{Option, Some, None}
-use Rattle.std.proofs.Math.Seq.{take-append_seam}
-use Rattle.std.proofs.lemmas.Bool.Decides.{Decides-eqb}
-use Rattle.std.proofs.lemmas.Slice.Eq.{starts_is}
-use Rattle.qspi.specs.Bytes.{begins_of}
 use Rattle.qspi.specs.Choice.{pick}
 use Rattle.qspi.specs.Command.{command_bytes}
 use Rattle.qspi.specs.Frame.{value_of}
@@ -21,6 +17,7 @@ use Rattle.qspi.specs.declared.transfer.Transfer.{Transfer}
 use Rattle.spi_flash.specs.Prog.{Prog, ret, fail, ask, ◌>>=◌, transfer}
 use Rattle.flash_runs.specs.Watch.{Watcher}
 use Rattle.flash_runs.proofs.Quiet.{QuietBy, Quiet, quiet_bind, quiet_then, quiet-refuse, quiet-ret, quiet-transfer, quiet-wait}
+use Rattle.flash_runs.proofs.Compared.{compared}
 use Rattle.flash_runs.proofs.Watchers.{both, Got, got, behind, reader}
 use Rattle.flash_runs.proofs.Watching.{Shows, Seen, shows-ret, shows-fail, shows-bind, shows_then, shows-refuse, shows-transfer}
 use Rattle.spi_nand.specs.Command.{get_feature_command}
@@ -102,16 +99,6 @@ module _ (flash : Setup) where
 
 -- ---- the read-back
 
--- a comparison that comes to 1 has found the data
-compared : (new given : List ℕ) → eqb (pick (begins_of new (drop 0 given)) 1 0) 0 ≡ false → new ≡ take (length new) given
-compared new given h = by (begins_of new given) refl h
-  where
-    by : (b : Bool) → begins_of new given ≡ b → eqb (pick b 1 0) 0 ≡ false → new ≡ take (length new) given
-    by true e k =
-        let whole : given ≡ new ++ drop (length new) given = (starts_is Decides-eqb given new _ refl).0 e in
-        sym (ap (take (length new)) whole ∙ take-append_seam new _)
-    by false e k = let z : ◌≡◌ {A = ℕ} 0 1 = cc in absurd (omega arith)
-
 -- n bytes have come, beside these data, with the value that they gave
 abbrev Compared : ℕ → ℕ → Beside → Type 0
 Compared n v y = (new given : List ℕ) × (length new ≡ n) × (v ≡ value_of (Sink.Compare 0) new given) × (y.0.bytes ≡ new) × (y.1 ≡ given)
@@ -155,4 +142,4 @@ module _ (flash : Setup) (some : 1 ≤ flash.geometry.page_size) (page : ℕ) wh
       (λ u d h. shows_then reading Any (quiet-shows [] _ (quiet-execute flash page) d h)
       (λ u x i. shows-bind reading Any (back x i)
       (λ v y k. shows-refuse reading Any (eqb v 0) _
-      (λ e. k.4 ∙ compared k.0 k.1 (ap (λ x. eqb x 0) (sym k.3) ∙ e) ∙ ap (λ m. take m k.1) k.2 ∙ ap (take size) (sym k.5))))))))
+      (λ e. k.4 ∙ compared 0 k.0 k.1 (ap (λ x. eqb x 0) (sym k.3) ∙ e) ∙ ap (λ m. take m k.1) k.2 ∙ ap (take size) (sym k.5))))))))

@@ -2,24 +2,20 @@
 use Prim.Native.Nat.{ℕ, zero, suc, ◌+◌, ◌-◌, ◌≤◌, ◌<◌}
 use native.Mathlib.Omega.{arith}
 use native.Mathlib.Nat.{zero-add}
-use mathlib.Core.Bool.{Bool, true, false, not, not-not}
+use mathlib.Core.Bool.{true, not, not-not}
 use mathlib.Core.Path.{◌≡◌, refl, ap, sym, ◌∙◌}
 use mathlib.Core.List.{List, [], ◌∷◌, ◌++◌, append-nil}
 use lib.ListN.{length, length-append, take, drop}
 use Rattle.std.specs.Prelude.{Option, Some, None}
 use lib.Dec.{ltb, eqb}
 use borrow.Author.Tests.{ltb-true, ltb-false}
-use Rattle.std.proofs.Math.Seq.{take-append_seam}
-use Rattle.std.proofs.lemmas.Bool.Decides.{Decides-eqb}
-use Rattle.std.proofs.lemmas.Slice.Eq.{starts_is}
-use Rattle.qspi.specs.Bytes.{begins_of}
-use Rattle.qspi.specs.Choice.{pick}
 use Rattle.qspi.specs.declared.transfer.Sink.{Sink}
 use Rattle.qspi.proofs.Cases.{by_cases}
 use Rattle.spi_flash.specs.Path.{Prefix}
 use Rattle.spi_flash.specs.Prog.{Prog, ret, ◌>>◌}
 use Rattle.spi_flash.specs.Range.{range_in_bounds}
 use Rattle.spi_flash.proofs.Pieces.{range-told}
+use Rattle.flash_runs.proofs.Compared.{compared}
 use Rattle.flash_runs.proofs.Watchers.{Got}
 use Rattle.flash_runs.proofs.Watching.{shows-ret, shows-bind, shows_then, shows-refuse}
 use Rattle.spi_nor.specs.Config.{in_bounds_of}
@@ -35,16 +31,6 @@ use Rattle.nor_runs.proofs.Pieces.{joined-more, places-more, in-turn-more, same-
 use Rattle.nor_runs.proofs.SeenRead.{place-exact}
 use Rattle.nor_runs.proofs.SeenTransfers as Transfers
 use Rattle.nor_runs.proofs.SeenTransfers.{Sights, seen, at, watcher, Sees, from, quiet-then}
-
--- a comparison that comes to 1 has found the data
-compared : (from : ℕ) (new given : List ℕ) → eqb (pick (begins_of new (drop from given)) 1 0) 0 ≡ false → new ≡ take (length new) (drop from given)
-compared from new given h = by (begins_of new (drop from given)) refl h
-  where
-    by : (b : Bool) → begins_of new (drop from given) ≡ b → eqb (pick b 1 0) 0 ≡ false → new ≡ take (length new) (drop from given)
-    by true e k =
-        let whole : drop from given ≡ new ++ drop (length new) (drop from given) = (starts_is Decides-eqb (drop from given) new _ refl).0 e in
-        sym (ap (take (length new)) whole ∙ take-append_seam new _)
-    by false e k = let z : ◌≡◌ {A = ℕ} 0 1 = cc in absurd (omega arith)
 
 -- at every point of a run
 abbrev pub InOrder : (offset len : ℕ) → Option ℕ → List ℕ → List Piece → List ℕ → Type 0
