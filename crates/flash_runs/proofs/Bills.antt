@@ -23,9 +23,10 @@ use Rattle.spi_flash.proofs.Runs.{heard-view, first-delay, trail-asks, run-bound
 use Rattle.spi_flash.proofs.Reach.{reached}
 use Rattle.flash_runs.specs.Driver.{Left, Driver, takes_at, program_at, bound_at, most_actions_at, ends_at, run_at, steps_at}
 use Rattle.flash_runs.specs.SameAsRust.{left_by}
-use Rattle.flash_runs.specs.WithinBound.{GivesAction, bill_of, bill_at, ComesTo, EndsWell, WithinBound}
+use Rattle.flash_runs.specs.WithinBound.{GivesAction, actions_given, bill_of, bill_at, ComesTo, EndsWell, WithinBound}
 use Rattle.flash_runs.specs.Watch.{Succeeded}
 use Rattle.flash_runs.proofs.General.{Parts, Place, decide_next}
+use Rattle.flash_runs.proofs.ActionsGiven.{run-gives}
 use Rattle.flash_runs.proofs.EndsAsRust.{lending-data, ends-as-rust}
 use Rattle.flash_runs.proofs.Supplies.{Asks, Supplies, Known}
 use Rattle.flash_runs.proofs.Judged.{refuses-just}
@@ -140,6 +141,22 @@ module _ {F C S A : Type 0} {driver : Driver F C S A} (known : Known driver) whe
               (omega (arith, first-delay o.first l.scratch l.given, trail-asks {C = C} (decide_next parts) takes o.at (first_of o.first) (answering r.0 ls), r.2.leads ls n w));
         }
 
+    -- ---- the actions given out
+
+    gives-run : Opened → (es : List (Event C)) → actions_given (run_at driver flash c l es) ≤ most_actions_at driver flash c l
+    unfolding actions_given
+    gives-run o es =
+        rw (opens-run known flash o es)
+        (omega (
+          arith,
+          run-gives (decide_next parts) (takes_at driver c l) known.Valid meaning supplies.simulates o.first o.at o.valid
+              (subst (Bounded actions (most_actions_at driver flash c l)) o.program (supplies.acts s c b d o.bounds)) es,
+        ))
+
+    quiet-gives : Nothing-begun known (shape known flash) c l → (es : List (Event C)) → actions_given (run_at driver flash c l es) ≤ most_actions_at driver flash c l
+    unfolding actions_given
+    quiet-gives n es = rw (no_run known flash n es) (omega arith)
+
     -- ---- every call ends
 
     run-has-ended : (es : List (Event C)) → Opened → Fitting (run_at driver flash c l es) → most_actions_at driver flash c l ≤ length es → HasEnded (run_at driver flash c l es)
@@ -211,6 +228,7 @@ module _ {F C S A : Type 0} {driver : Driver F C S A} (known : Known driver) whe
     billed = billed;
     without_run = λ flash c l es free silent. quiet-asked (refuses-just known) (refusals-keep driver parts known.is) flash c l free silent es;
     reached = λ flash c l small h. comes-to flash c l small (begun-opens known flash c l h);
+    actions = λ flash c l es. ⊎_elim (λ n. quiet-gives flash c l n es) (λ o. gives-run flash c l o es) (view known flash c l);
     ends = λ flash c l es h fit long. run-has-ended flash c l es (begun-opens known flash c l h) fit long;
     never_ends = λ flash c l es cannot e. ⊎_elim (λ n. quiet-never flash c l n es e) (λ o. ends-never flash c l o cannot es e) (view known flash c l);
     ends_well = λ flash c l small h can. comes-well flash c l small can (begun-opens known flash c l h);

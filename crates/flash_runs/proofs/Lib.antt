@@ -20,6 +20,7 @@ pub mod EndsAsRust
 pub mod Delivered
 pub mod Breaking
 pub mod Scratch
+pub mod ActionsGiven
 pub mod Bills
 pub mod Lent
 pub mod Judged

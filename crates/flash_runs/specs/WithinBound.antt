@@ -1,10 +1,10 @@
 -- The delays and actions of a call over every run: it never asks more than its bound, some replies bring it there, it comes to an end and
 -- on some replies ends well (docs/SPECIFICATION.md, "Waits and bounds" and "Runs").
-use Rattle.std.specs.Prelude.{ℕ, ◌≤◌, true, false, ◌≡◌, List, length}
+use Rattle.std.specs.Prelude.{ℕ, ◌+◌, ◌≤◌, true, false, ◌≡◌, List, [], ◌∷◌, length}
 use Rattle.std.proofs.Math.Option.{some}
 use Rattle.qspi.specs.Bytes.{AllBytes}
 use Rattle.spi_flash.specs.Loan.{Lent}
-use Rattle.spi_flash.specs.Run.{Event, Given, act, ended, failed, refused, delay_asked, Fitting, HasEnded, Answer, RealReplies, answering, Lending}
+use Rattle.spi_flash.specs.Run.{Event, Entry, Given, act, ended, failed, refused, delay_asked, Fitting, HasEnded, Answer, RealReplies, answering, Lending}
 use Rattle.spi_flash.specs.Seen.{told}
 use Rattle.flash_runs.specs.Driver.{Left, Driver, takes_at, bound_at, most_actions_at, ends_at, run_at, steps_at}
 use Rattle.flash_runs.specs.SameAsRust.{left_by, rust_call}
@@ -16,6 +16,15 @@ GivesAction (act shown) = Unit {0}
 GivesAction (ended a) = ⊥
 GivesAction (failed e) = ⊥
 GivesAction (refused e) = ⊥
+
+-- the actions given out
+abbrev pub action_given : {A : Type 0} → Given A → ℕ
+action_given (act shown) = 1
+action_given _ = 0
+
+unfoldable pub actions_given : {C A : Type 0} → List (Entry C A) → ℕ
+actions_given [] = 0
+actions_given (x ∷ xs) = action_given x.given + actions_given xs
 
 -- 0 unless an action is given
 abbrev pub bill_of : {A : Type 0} → Given A → (bound : ℕ) → ℕ
@@ -62,7 +71,9 @@ module _ {F C S A : Type 0} (driver : Driver F C S A) where
         delay_asked (steps_at driver flash call l es) ≡ 0
     -- for each call that has begun some replies bring it to its bound
     pub reached : (flash : F) (call : C) (l : Lent) → AllBytes l.given → Begun flash call l → ComesTo flash call l (bound_at driver flash call l)
-    -- it comes to an end on every list of fitting replies that is as long as its number of actions
+    -- a run gives out no more actions than that
+    pub actions : (flash : F) (call : C) (l : Lent) (es : List (Event C)) → actions_given (run_at driver flash call l es) ≤ most_actions_at driver flash call l
+    -- a call comes to an end on every list of fitting replies that is as long
     pub ends : (flash : F) (call : C) (l : Lent) (es : List (Event C)) → Begun flash call l →
         Fitting (run_at driver flash call l es) → most_actions_at driver flash call l ≤ length es → HasEnded (run_at driver flash call l es)
     -- every call that has begun ends well on some replies, but for those that never do

@@ -32,7 +32,7 @@ false≢true : false ≡ true → ⊥
 false≢true h = let z : ◌≡◌ {A = ℕ} 0 1 = cc in omega arith
 
 -- the replies that a frame still takes, at most
-abbrev remaining_at : Stage → Transfer → ℕ
+abbrev pub remaining_at : Stage → Transfer → ℕ
 remaining_at Stage.Start t = actions t
 remaining_at Stage.Command Transfer.Raise = 2
 remaining_at Stage.Command (Transfer.Pause us) = 2
@@ -44,7 +44,7 @@ remaining_at Stage.Command (Transfer.Framed c (Body.QuadWrite p)) = 2
 remaining_at Stage.Payload t = 2
 remaining_at Stage.High t = 1
 
-abbrev remaining : Frame → ℕ
+abbrev pub remaining : Frame → ℕ
 remaining f = remaining_at f.stage f.transfer
 
 -- the frames whose action is the last of their transfer
@@ -250,7 +250,7 @@ module _ {S A C : Type 0} (Valid : S → Type 0) (next : S → Outcome → Decis
 
 -- ---- every call ends
 
-remaining-some : (stage : Stage) (t : Transfer) → 0 < remaining_at stage t
+pub remaining-some : (stage : Stage) (t : Transfer) → 0 < remaining_at stage t
 remaining-some Stage.Start Transfer.Raise = lit< tt
 remaining-some Stage.Start (Transfer.Pause us) = lit< tt
 remaining-some Stage.Start (Transfer.Framed c Body.None) = lit< tt
