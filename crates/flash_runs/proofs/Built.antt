@@ -23,7 +23,7 @@ use Rattle.spi_flash.specs.declared.loan.Takes.{Takes}
 use Rattle.qspi.proofs.Cases.{by_cases, keeps-pick}
 use Rattle.flash_runs.specs.Built.{after_turns, GivenInside, Asked, BuiltInside}
 use Rattle.flash_runs.specs.Driver.{Left, Sort, constructs, tells, releases, uses, works_on, Driver, sort_at}
-use Rattle.flash_runs.specs.SameAsRust.{Turn, Ready, Steady, turn_after, EachTurn, each_turn, heeding_turn, rust_session, driver_of}
+use Rattle.flash_runs.specs.SameAsRust.{Turn, Ready, Steady, turn_after, EachTurn, heeding_turn, rust_session, driver_of}
 use Rattle.flash_runs.proofs.General as General
 use Rattle.flash_runs.proofs.General.{Then, Opening, constructing, telling, releasing, working, Parts, Job, Running, idle, busy, is_busy, Flash, flash_of, Place, place, settled, opened, general, opened_as, begin_at, answer_at, proceeds}
 use Rattle.flash_runs.proofs.Supplies.{Stays, OpensAs, Known}

@@ -1,7 +1,7 @@
 -- A run takes the events that fit the actions of its program, and no others.
 use Prim.Native.Nat.{ℕ}
 use native.Mathlib.Omega.{arith}
-use mathlib.Core.Bool.{Bool, true, false}
+use mathlib.Core.Bool.{Bool}
 use mathlib.Core.Path.{◌≡◌, refl, ap, sym, ◌∙◌, subst}
 use mathlib.Core.List.{List, [], ◌∷◌}
 use lib.ListN.{length}
@@ -16,7 +16,7 @@ use Rattle.qspi.proofs.Cases.{by_cases}
 use Rattle.spi_flash.specs.Loan.{Lent, ready_for}
 use Rattle.spi_flash.specs.Machine.{Decision, more, well, bad, Config, out, rest, lent_as, settle, moved, machine}
 use Rattle.spi_flash.specs.OnBus.{BusProg, answers, stops, does, fills, performed}
-use Rattle.spi_flash.specs.Run.{Event, reply, call, Given, act, ended, failed, refused, Entry, Moved, entry, goes_on, Answer}
+use Rattle.spi_flash.specs.Run.{Event, reply, call, Given, act, ended, failed, Entry, Moved, entry, goes_on, Answer}
 use Rattle.spi_flash.specs.Seen.{Did, did, told_then, told, replies_of, accepted, events_of}
 use Rattle.spi_flash.specs.declared.error.FlashError.{FlashError}
 use Rattle.spi_flash.specs.declared.loan.Takes.{Takes}

@@ -22,7 +22,7 @@ use Rattle.spi_flash.proofs.Performs.{Looks, looks_then, looking, looking-whole,
 use Rattle.spi_flash.proofs.Heeded.{Closed, closed-whole, fitting-told, Heeds, heeds}
 use Rattle.flash_runs.specs.Driver.{Left, Sort, constructs, tells, releases, uses, Driver, sort_at, takes_at, program_at, steps_at}
 use Rattle.flash_runs.specs.Heeding.{heeding}
-use Rattle.flash_runs.specs.SameAsRust.{LendsData, Ready, Steady, Regular, rust_call, rust_heeding, driver_of, left_then, left_by, driver_after, Turn, turn_steps, turn_after, EachTurn, each_turn, Orderly, session, turn_gives, holding, rust_turn, heeding_turn, rust_session, SameAsRust}
+use Rattle.flash_runs.specs.SameAsRust.{LendsData, Ready, Steady, Regular, rust_call, rust_heeding, driver_of, left_then, left_by, driver_after, Turn, turn_steps, turn_after, EachTurn, turn_by_turn, SteadyAlone, Orderly, session, turn_gives, holding, rust_turn, heeding_turn, rust_session, SameAsRust}
 use Rattle.flash_runs.proofs.General.{Opening, constructing, telling, releasing, working, Parts, Flash, decide_next}
 use Rattle.flash_runs.proofs.Supplies.{LooksAs, OpensAs, Known}
 use Rattle.flash_runs.proofs.Runs.{same-call}
@@ -235,7 +235,7 @@ module _ {F C S A : Type 0} {driver : Driver F C S A} (known : Known driver) whe
       ∙ rust-is (driver.setup flash) x.call x.lent x.events _ (held (sort_at driver x.call x.lent) flash x.call x.lent refl h.usable.ready)
 
   sessions : (flash : F) (turns : List (Turn C)) → Orderly driver flash turns → session driver flash turns ≡ rust_session driver (rust_turn driver) (driver_of driver flash) turns
-  unfolding EachTurn each_turn rust_session
+  unfolding EachTurn turn_by_turn rust_session
   sessions flash [] h = refl
   sessions flash (x ∷ xs) h =
       let head = turn-same flash x h.0 in
@@ -251,8 +251,8 @@ module _ {F C S A : Type 0} {driver : Driver F C S A} (known : Known driver) whe
       ∙ ap (λ p. gives_of (heeding (takes_at driver x.call x.lent) (program_on_bus x.lent.given p) x.events x.lent.buffer)) (held (sort_at driver x.call x.lent) flash x.call x.lent refl h.usable.ready)
 
   steady-sessions : (flash : F) (turns : List (Turn C)) → EachTurn driver (λ flash x. Steady driver flash x.call x.lent x.events) flash turns →
-      each_turn driver (turn_gives driver) flash turns ≡ map gives_of (rust_session driver (heeding_turn driver) (driver_of driver flash) turns)
-  unfolding EachTurn each_turn rust_session
+      turn_by_turn driver (turn_gives driver) flash turns ≡ map gives_of (rust_session driver (heeding_turn driver) (driver_of driver flash) turns)
+  unfolding EachTurn turn_by_turn rust_session
   steady-sessions flash [] h = refl
   steady-sessions flash (x ∷ xs) h =
       let head = turn-gives flash x h.0 in
@@ -262,5 +262,23 @@ module _ {F C S A : Type 0} {driver : Driver F C S A} (known : Known driver) whe
       (left known flash x.call x.lent x.events h.0.usable
       ∙ ap (driver_after (sort_at driver x.call x.lent) (driver_of driver flash)) (left-as (turn_steps driver flash x) _ head)))
 
+  turn-delivers : (flash : F) (x : Turn C) → SteadyAlone driver flash x → told (accepted (turn_steps driver flash x)) ≡ heeding_turn driver (driver_of driver flash) x
+  turn-delivers flash x h =
+      delivers flash x.call x.lent x.events h.0 h.1
+      ∙ ap (λ p. heeding (takes_at driver x.call x.lent) (program_on_bus x.lent.given p) x.events x.lent.buffer)
+      (held (sort_at driver x.call x.lent) flash x.call x.lent refl h.0.usable.ready)
+
+  delivered-sessions : (flash : F) (turns : List (Turn C)) → EachTurn driver (SteadyAlone driver) flash turns →
+      turn_by_turn driver (λ flash x. told (accepted (turn_steps driver flash x))) flash turns ≡ rust_session driver (heeding_turn driver) (driver_of driver flash) turns
+  unfolding EachTurn turn_by_turn rust_session
+  delivered-sessions flash [] h = refl
+  delivered-sessions flash (x ∷ xs) h =
+      let head = turn-delivers flash x h.0 in
+      ap₂ (λ a b. a ∷ b) head
+      (delivered-sessions (turn_after driver flash x) xs h.1
+      ∙ ap (λ before. rust_session driver (heeding_turn driver) before xs)
+      (left known flash x.call x.lent x.events h.0.0.usable
+      ∙ ap (driver_after (sort_at driver x.call x.lent) (driver_of driver flash)) (left-as (turn_steps driver flash x) _ (ap gives_of head))))
+
   pub same_as_rust : SameAsRust driver
-  same_as_rust = record { gives = gives-same; delivers = delivers; same = same; left = left known; sessions = sessions; steady_sessions = steady-sessions }
+  same_as_rust = record { gives = gives-same; delivers = delivers; same = same; left = left known; sessions = sessions; steady_sessions = steady-sessions; delivered_sessions = delivered-sessions }

@@ -103,15 +103,19 @@ module _ {F C S A : Type 0} (driver : Driver F C S A) where
   EachTurn P flash [] = Unit {0}
   EachTurn P flash (x ∷ xs) = P flash x × EachTurn P (turn_after flash x) xs
 
-  unfoldable pub each_turn : {B : Type 0} → (F → Turn C → B) → F → List (Turn C) → List B
-  each_turn f flash [] = []
-  each_turn f flash (x ∷ xs) = f flash x ∷ each_turn f (turn_after flash x) xs
+  unfoldable pub turn_by_turn : {B : Type 0} → (F → Turn C → B) → F → List (Turn C) → List B
+  turn_by_turn f flash [] = []
+  turn_by_turn f flash (x ∷ xs) = f flash x ∷ turn_by_turn f (turn_after flash x) xs
+
+  -- a steady call into a buffer where nobody else writes
+  abbrev pub SteadyAlone : F → Turn C → Type 0
+  SteadyAlone flash x = Steady flash x.call x.lent x.events × Undisturbed x.lent.buffer (turn_steps flash x)
 
   abbrev pub Orderly : F → List (Turn C) → Type 0
   Orderly flash turns = EachTurn (λ flash x. Regular flash x.call x.lent x.events) flash turns
 
   abbrev pub session : F → List (Turn C) → List (List (Did (Left S A)))
-  session flash turns = each_turn (λ flash x. told (turn_steps flash x)) flash turns
+  session flash turns = turn_by_turn (λ flash x. told (turn_steps flash x)) flash turns
 
   -- what is given, refusals passed over
   abbrev pub turn_gives : F → Turn C → List (Given (Left S A))
@@ -147,4 +151,7 @@ module _ {F C S A : Type 0} (driver : Driver F C S A) where
     pub sessions : (flash : F) (turns : List (Turn C)) → Orderly flash turns → session flash turns ≡ rust_session rust_turn (driver_of flash) turns
     -- refused events and disturbed buffers among them
     pub steady_sessions : (flash : F) (turns : List (Turn C)) → EachTurn (λ flash x. Steady flash x.call x.lent x.events) flash turns →
-        each_turn turn_gives flash turns ≡ map gives_of (rust_session heeding_turn (driver_of flash) turns)
+        turn_by_turn turn_gives flash turns ≡ map gives_of (rust_session heeding_turn (driver_of flash) turns)
+    -- and the delivered bytes, where in every call nobody else writes into the buffer
+    pub delivered_sessions : (flash : F) (turns : List (Turn C)) → EachTurn SteadyAlone flash turns →
+        turn_by_turn (λ flash x. told (accepted (turn_steps flash x))) flash turns ≡ rust_session heeding_turn (driver_of flash) turns

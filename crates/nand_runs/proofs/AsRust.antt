@@ -23,7 +23,7 @@ use Rattle.spi_flash.proofs.Laws.{bind_assoc}
 use Rattle.flash_runs.specs.Driver.{takes_of, steps_at, sort_at, takes_at}
 use Rattle.flash_runs.specs.Heeding.{fits_out, heeding}
 use Rattle.flash_runs.specs.Promises.{Promises}
-use Rattle.flash_runs.specs.SameAsRust.{left_by, driver_after, Turn, Steady, rust_call, rust_heeding, driver_of, turn_steps, turn_after, EachTurn, each_turn, turn_gives, holding, heeding_turn, rust_session}
+use Rattle.flash_runs.specs.SameAsRust.{left_by, driver_after, Turn, Steady, rust_call, rust_heeding, driver_of, turn_steps, turn_after, EachTurn, turn_by_turn, turn_gives, holding, heeding_turn, rust_session}
 use Rattle.flash_runs.proofs.Promises.{promises}
 use Rattle.flash_runs.proofs.SameAsRust.{turn-gives, left-as}
 use Rattle.spi_nand.specs.declared.config.NandInit.{NandInit}
@@ -219,9 +219,9 @@ module _ (flash : SpiNandFlash) (x : Turn Call) (h : Steady nand_driver flash x.
   turn-driver = general.same_as_rust.left flash x.call x.lent x.events h.usable ∙ ap (driver_after (sort_at nand_driver x.call x.lent) before) (turn-left (large_page x.call) refl)
 
 sessions : (flash : SpiNandFlash) (turns : List (Turn Call)) → EachTurn nand_driver (λ flash x. Steady nand_driver flash x.call x.lent x.events) flash turns →
-    but_large turns (each_turn nand_driver (turn_gives nand_driver) flash turns) ≡
+    but_large turns (turn_by_turn nand_driver (turn_gives nand_driver) flash turns) ≡
     but_large turns (map gives_of (rust_session rust_driver (heeding_turn rust_driver) (driver_of nand_driver flash) turns))
-unfolding EachTurn each_turn rust_session
+unfolding EachTurn turn_by_turn rust_session
 sessions flash [] h = refl
 sessions flash (x ∷ xs) h =
     ap₂ (λ a b. a ∷ b) (turn-but flash x h.0 (large_page x.call) refl)

@@ -14,7 +14,7 @@ use Rattle.spi_flash.specs.declared.loan.Takes.{Takes}
 use Rattle.flash_runs.specs.Built.{AllAsked}
 use Rattle.flash_runs.specs.Heeding.{heeding}
 use Rattle.flash_runs.specs.Driver.{Driver, steps_at}
-use Rattle.flash_runs.specs.SameAsRust.{left_by, Turn, Steady, Regular, rust_call, rust_heeding, driver_of, EachTurn, each_turn, turn_gives, heeding_turn, rust_session}
+use Rattle.flash_runs.specs.SameAsRust.{left_by, Turn, Steady, Regular, rust_call, rust_heeding, driver_of, EachTurn, turn_by_turn, turn_gives, heeding_turn, rust_session}
 use Rattle.spi_nand.specs.declared.answer.Answer as Nand
 use Rattle.spi_nand.specs.declared.config.NandJedecId.{NandJedecId}
 use Rattle.spi_nand.specs.declared.config.SpiNandConfig.{SpiNandConfig}
@@ -99,9 +99,9 @@ pub record AsRust : Type 0 where
   pub leaves_none : (l : Lent) (es : List (Event Call)) → (left_by (refused_by l es) ≡ none) × (left_by (refused_heeding l es) ≡ none)
   -- so that over any sequence of calls every other call gives what the Rust's gives, each on the driver that the calls before it have left
   pub sessions : (flash : SpiNandFlash) (turns : List (Turn Call)) → EachTurn nand_driver (λ flash x. Steady nand_driver flash x.call x.lent x.events) flash turns →
-      but_large turns (each_turn nand_driver (turn_gives nand_driver) flash turns) ≡
+      but_large turns (turn_by_turn nand_driver (turn_gives nand_driver) flash turns) ≡
       but_large turns (map gives_of (rust_session rust_driver (heeding_turn rust_driver) (driver_of nand_driver flash) turns))
   -- from a driver before any construction on, where constructions alone are given a geometry inside the bounds
   pub fresh_sessions : (turns : List (Turn Call)) → AllAsked nand_driver turns →
-      but_large turns (each_turn nand_driver (turn_gives nand_driver) nand_driver.fresh turns) ≡
+      but_large turns (turn_by_turn nand_driver (turn_gives nand_driver) nand_driver.fresh turns) ≡
       but_large turns (map gives_of (rust_session rust_driver (heeding_turn rust_driver) none turns))
