@@ -21,7 +21,7 @@ use Rattle.spi_flash.specs.Run.{Event, reply, call, System, state_after}
 use Rattle.spi_flash.specs.Seen.{gives_of}
 use Rattle.spi_flash.specs.declared.loan.Takes.{Takes}
 use Rattle.qspi.proofs.Cases.{by_cases, keeps-pick}
-use Rattle.flash_runs.specs.Built.{after_turns, GivenInside, Asked, BuiltInside}
+use Rattle.flash_runs.specs.Built.{after_turns, GivenInside, Admissible, BuiltInside}
 use Rattle.flash_runs.specs.Driver.{Left, Sort, constructs, tells, releases, uses, works_on, Driver, sort_at}
 use Rattle.flash_runs.specs.SameAsRust.{Turn, Ready, Steady, turn_after, EachTurn, heeding_turn, rust_session, driver_of}
 use Rattle.flash_runs.proofs.General as General
@@ -188,7 +188,7 @@ module _ {F C S A : Type 0} {driver : Driver F C S A} (known : Known driver) (pa
     bounds-as flash l releases h ready inside = (h.0 ready).0
     bounds-as flash l (uses takes) h ready inside = (h.0 ready.0).0
 
-    steadies : (turns : List (Turn C)) (flash : F) → Sounds flash → EachTurn driver (λ flash x. Asked driver flash x.call x.lent x.events) flash turns →
+    steadies : (turns : List (Turn C)) (flash : F) → Sounds flash → EachTurn driver (λ flash x. Admissible driver flash x.call x.lent x.events) flash turns →
         EachTurn driver (λ flash x. Steady driver flash x.call x.lent x.events) flash turns
     unfolding EachTurn
     steadies [] flash h a = tt

@@ -22,14 +22,14 @@ module _ {F C S A : Type 0} (driver : Driver F C S A) where
   GivenInside (uses takes) = Unit {0}
 
   -- a call that the Rust could be asked for, with the same data lent throughout, where it takes data; the bounds only of a construction
-  pub record Asked (flash : F) (call : C) (l : Lent) (es : List (Event C)) : Type 0 where
+  pub record Admissible (flash : F) (call : C) (l : Lent) (es : List (Event C)) : Type 0 where
     pub idle : driver.system.running flash ≡ false
     pub ready : Ready driver (sort_at driver call l) flash l
     pub inside : GivenInside (sort_at driver call l)
     pub same_data : LendsData (takes_at driver call l) l.given (steps_at driver flash call l es)
 
-  abbrev pub AllAsked : List (Turn C) → Type 0
-  AllAsked turns = EachTurn driver (λ flash x. Asked flash x.call x.lent x.events) driver.fresh turns
+  abbrev pub AllAdmissible : List (Turn C) → Type 0
+  AllAdmissible turns = EachTurn driver (λ flash x. Admissible flash x.call x.lent x.events) driver.fresh turns
 
   -- of a driver whose page is at most so long once it is built
   pub record BuiltInside (page_of : S → ℕ) (most : ℕ) : Type 0 where
@@ -37,7 +37,7 @@ module _ {F C S A : Type 0} (driver : Driver F C S A) where
     pub inside : (turns : List (Turn C)) → driver.built (after_turns driver.fresh turns) ≡ true → driver.in_bounds (driver.setup (after_turns driver.fresh turns)) ≡ true
     pub page : (turns : List (Turn C)) → driver.built (after_turns driver.fresh turns) ≡ true → page_of (driver.setup (after_turns driver.fresh turns)) ≤ most
     -- so that what is said of calls on geometries inside the bounds holds where constructions are given such
-    pub steady : (turns : List (Turn C)) → AllAsked turns → EachTurn driver (λ flash x. Steady driver flash x.call x.lent x.events) driver.fresh turns
+    pub steady : (turns : List (Turn C)) → AllAdmissible turns → EachTurn driver (λ flash x. Steady driver flash x.call x.lent x.events) driver.fresh turns
     -- and so the calls give what the Rust's give, from the first construction on
-    pub sessions : (turns : List (Turn C)) → AllAsked turns →
+    pub sessions : (turns : List (Turn C)) → AllAdmissible turns →
         turn_by_turn driver (turn_gives driver) driver.fresh turns ≡ map gives_of (rust_session driver (heeding_turn driver) none turns)

@@ -11,7 +11,7 @@ use Rattle.spi_flash.specs.Run.{Event}
 use Rattle.spi_flash.specs.Seen.{Did, told, gives_of, replies_of, accepted, Undisturbed}
 use Rattle.spi_flash.specs.declared.error.FlashError.{FlashError}
 use Rattle.spi_flash.specs.declared.loan.Takes.{Takes}
-use Rattle.flash_runs.specs.Built.{AllAsked}
+use Rattle.flash_runs.specs.Built.{AllAdmissible}
 use Rattle.flash_runs.specs.Heeding.{heeding}
 use Rattle.flash_runs.specs.Driver.{Driver, steps_at}
 use Rattle.flash_runs.specs.SameAsRust.{left_by, Turn, Steady, Regular, rust_call, rust_heeding, driver_of, EachTurn, turn_by_turn, turn_gives, heeding_turn, rust_session}
@@ -102,6 +102,6 @@ pub record AsRust : Type 0 where
       but_large turns (turn_by_turn nand_driver (turn_gives nand_driver) flash turns) ≡
       but_large turns (map gives_of (rust_session rust_driver (heeding_turn rust_driver) (driver_of nand_driver flash) turns))
   -- from a driver before any construction on, where constructions alone are given a geometry inside the bounds
-  pub fresh_sessions : (turns : List (Turn Call)) → AllAsked nand_driver turns →
+  pub fresh_sessions : (turns : List (Turn Call)) → AllAdmissible nand_driver turns →
       but_large turns (turn_by_turn nand_driver (turn_gives nand_driver) nand_driver.fresh turns) ≡
       but_large turns (map gives_of (rust_session rust_driver (heeding_turn rust_driver) none turns))
