@@ -1,4 +1,4 @@
-// How a call begins, and how it is turned away.
+//! How a call begins, and how it is turned away.
 ghost use Rattle.std.specs.Prelude.{◌≡◌};
 ghost use Rattle.spi_flash.specs.Beginning.{constructed, told, freed, opened, begun, at_rest, begins};
 ghost use Rattle.machine.specs.Shape.{then_as, opening_as, shape};
@@ -104,7 +104,7 @@ fn idle<D: Part>(flash: FlashOf<D>, opening: OpeningOf<D>, scratch_len: usize) -
     }
 }
 
-// Begins a call, by the lengths of what is lent. Nothing lent changes: a command is put into the scratch only in a later step.
+/// Begins a call, by the lengths of what is lent. Nothing lent changes: a command is put into the scratch only in a later step.
 #[tactic(auto, unfolding(spi_flash::specs::Beginning::begins))]
 pub fn begin<D: Part>(flash: FlashOf<D>, call: D::Call, lengths: Lengths) -> SteppedOf<D>
     ensures { result ≡ begins shape D.calls flash call lengths.scratch lengths.buffer lengths.«data» }

@@ -1,4 +1,4 @@
-// The number with which a step has ended the call.
+//! The number with which a step has ended the call.
 ghost use Rattle.std.specs.Prelude.{◌≡◌};
 ghost use Rattle.machine.specs.Number.{number_of};
 

@@ -1,4 +1,4 @@
-// What is a part's own.
+//! What is a part's own.
 ghost use Rattle.std.specs.Prelude.{◌≡◌};
 ghost use Rattle.qspi.specs.Frame.{Outcome};
 ghost use Rattle.spi_flash.specs.Beginning.{Calls};
@@ -10,6 +10,7 @@ use crate::then::{Opening, Then};
 use qspi::frame::Outcome;
 use qspi::loan::Lengths;
 
+/// A part of flash: what it has of its own, of which the machine makes its driver.
 pub trait Part {
     type Setup: Copy;
 
@@ -39,11 +40,14 @@ pub trait Part {
         ensures { then_as result ≡ next setup phase outcome };
 }
 
-// The machine's types at a part.
+/// The machine's types at a part.
 pub type FlashOf<D> = Flash<<D as Part>::Setup, <D as Part>::Phase>;
 
+/// What a step of the part's driver gives.
 pub type SteppedOf<D> = Stepped<<D as Part>::Setup, <D as Part>::Phase, <D as Part>::Answer>;
 
+/// What follows a transfer of the part's driver.
 pub type ThenOf<D> = Then<<D as Part>::Setup, <D as Part>::Phase, <D as Part>::Answer>;
 
+/// What a call is to the part's driver at rest.
 pub type OpeningOf<D> = Opening<<D as Part>::Setup, <D as Part>::Phase, <D as Part>::Answer>;

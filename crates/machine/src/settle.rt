@@ -1,4 +1,4 @@
-// A driver's state put together, and what a step comes to: the next transfer's first action, the call's end, or a refusal.
+//! A driver's state put together, and what a step comes to: the next transfer's first action, the call's end, or a refusal.
 ghost use Rattle.std.specs.Prelude.{◌≡◌};
 ghost use Rattle.spi_flash.specs.Settling.{started, settled};
 ghost use Rattle.machine.specs.Shape.{then_as, shape, flash_of, started_of, refused_of};
@@ -12,7 +12,7 @@ use spi_flash::error::FlashError;
 use spi_flash::loan::Takes;
 
 impl<S: Copy, P: Copy> Flash<S, P> {
-    // The driver at rest. Setup, built and delivered stand side by side here alone, where a Flash is made of nothing else.
+    /// The driver at rest. Setup, built and delivered stand side by side here alone, where a Flash is made of nothing else.
     pub fn resting(setup: S, built: bool, delivered: usize) -> Flash<S, P>
         ensures { result ≡ flash_of setup built delivered None }
     {
@@ -24,7 +24,7 @@ impl<S: Copy, P: Copy> Flash<S, P> {
         }
     }
 
-    // The state unchanged, and why.
+    /// The state unchanged, and why.
     pub fn refused<A>(self, error: FlashError) -> Stepped<S, P, A>
         ensures { result ≡ refused_of self error }
     {
@@ -34,6 +34,7 @@ impl<S: Copy, P: Copy> Flash<S, P> {
         }
     }
 
+    /// An action for the host.
     pub fn acting<A>(self, action: Action) -> Stepped<S, P, A>
         ensures { result ≡ started_of self action }
     {
@@ -43,7 +44,7 @@ impl<S: Copy, P: Copy> Flash<S, P> {
         }
     }
 
-    // Gives out the first action of a transfer.
+    /// Gives out the first action of a transfer.
     pub fn start<A>(self, takes: Takes, setup: S, transfer: Transfer, phase: P) -> Stepped<S, P, A>
         ensures { result ≡ started shape self takes setup transfer phase }
     {
@@ -61,7 +62,7 @@ impl<S: Copy, P: Copy> Flash<S, P> {
         .acting(frame::pending(frame))
     }
 
-    // Goes on with the next transfer, or ends the call. A call that has succeeded leaves the driver built.
+    /// Goes on with the next transfer, or ends the call. A call that has succeeded leaves the driver built.
     #[tactic(auto, unfolding(spi_flash::specs::Settling::settled))]
     pub fn settle<A>(self, takes: Takes, then: Then<S, P, A>) -> Stepped<S, P, A>
         ensures { result ≡ settled shape self takes (then_as «then») }

@@ -1,10 +1,10 @@
-// A driver's state and what a step gives, over its setup S, its phases P and its answers A.
+//! A driver's state and what a step gives, over its setup S, its phases P and its answers A.
 use qspi::bus::Action;
 use qspi::frame::Frame;
 use spi_flash::error::FlashError;
 use spi_flash::loan::Takes;
 
-// A call under way.
+/// A call under way.
 #[derive(Clone, Copy)]
 pub struct Job<P> {
     pub phase: P,
@@ -12,6 +12,7 @@ pub struct Job<P> {
     pub takes: Takes,
 }
 
+/// A driver's state.
 #[derive(Clone, Copy)]
 pub struct Flash<S, P> {
     pub setup: S,
@@ -22,7 +23,7 @@ pub struct Flash<S, P> {
     pub running: Option<Job<P>>,
 }
 
-// Not a Result: an action neither succeeds nor fails, and a refusal is no failure of the call under way.
+/// Not a Result: an action neither succeeds nor fails, and a refusal is no failure of the call under way.
 #[derive(Clone, Copy)]
 pub enum Given<A> {
     Act(Action),
@@ -34,6 +35,7 @@ pub enum Given<A> {
     Refused(FlashError),
 }
 
+/// What a step gives, and the state after it.
 #[derive(Clone, Copy)]
 pub struct Stepped<S, P, A> {
     pub flash: Flash<S, P>,

@@ -1,4 +1,4 @@
-// One reply to the action that is out.
+//! One reply to the action that is out.
 ghost use Rattle.std.specs.Prelude.{◌≡◌, take};
 ghost use Rattle.qspi.specs.Loan.{SameLoan, lending, returning};
 ghost use Rattle.spi_flash.specs.Replying.{exchanged, stepped_to, steps};
@@ -41,7 +41,7 @@ fn exchanged<D: Part>(
     }
 }
 
-// Takes the reply to the action that is out, and gives the next action or the call's end.
+/// Takes the reply to the action that is out, and gives the next action or the call's end.
 #[tactic(auto, unfolding(spi_flash::specs::Replying::steps))]
 pub fn step<D: Part>(flash: FlashOf<D>, reply: Reply, bytes: &[u8], lent: &mut Loan) -> SteppedOf<D>
     ensures same { SameLoan lent.old lent.new }

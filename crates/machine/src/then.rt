@@ -1,4 +1,4 @@
-// What a call is, and what follows each of its transfers. Enums and no closures: no function may hand a closure out.
+//! What a call is, and what follows each of its transfers. Enums and no closures: no function may hand a closure out.
 ghost use Rattle.std.specs.Prelude.{◌≡◌};
 ghost use Rattle.machine.specs.Then.{go_to, end_with, plain, filling, sending};
 
@@ -6,7 +6,7 @@ use qspi::transfer::Transfer;
 use spi_flash::error::FlashError;
 use spi_flash::loan::Takes;
 
-// On with what the driver holds from here: another transfer, or the call's end.
+/// On with what the driver holds from here: another transfer, or the call's end.
 #[derive(Clone, Copy)]
 pub enum Next<S, P, A> {
     Go {
@@ -20,9 +20,10 @@ pub enum Next<S, P, A> {
     },
 }
 
+/// What follows a transfer: on, or the error with which the call ends.
 pub type Then<S, P, A> = Result<Next<S, P, A>, FlashError>;
 
-// A transfer, and where the call stands while it is out.
+/// A transfer, and where the call stands while it is out.
 pub fn go<S, P, A>(setup: S, transfer: Transfer, phase: P) -> Then<S, P, A>
     ensures { result ≡ go_to setup transfer phase }
 {
@@ -33,14 +34,14 @@ pub fn go<S, P, A>(setup: S, transfer: Transfer, phase: P) -> Then<S, P, A>
     })
 }
 
-// The call's end.
+/// The call's end.
 pub fn end<S, P, A>(setup: S, answer: A) -> Then<S, P, A>
     ensures { result ≡ end_with setup answer }
 {
     Ok(Next::End { setup, answer })
 }
 
-// What a call is to a driver at rest.
+/// What a call is to a driver at rest.
 #[derive(Clone, Copy)]
 pub enum Opening<S, P, A> {
     // A construction, with what the driver holds before the id is known.
@@ -53,7 +54,7 @@ pub enum Opening<S, P, A> {
 }
 
 impl<S, P, A> Opening<S, P, A> {
-    // A call that takes nothing. These three are the three variants of what a call takes.
+    /// A call that takes nothing. These three are the three variants of what a call takes.
     pub fn plain(then: Then<S, P, A>) -> Opening<S, P, A>
         ensures { result ≡ plain «then» }
     {
@@ -63,7 +64,7 @@ impl<S, P, A> Opening<S, P, A> {
         }
     }
 
-    // One that takes the caller's buffer.
+    /// One that takes the caller's buffer.
     pub fn filling(len: usize, then: Then<S, P, A>) -> Opening<S, P, A>
         ensures { result ≡ filling len «then» }
     {
@@ -73,7 +74,7 @@ impl<S, P, A> Opening<S, P, A> {
         }
     }
 
-    // One that takes the caller's data.
+    /// One that takes the caller's data.
     pub fn sending(len: usize, then: Then<S, P, A>) -> Opening<S, P, A>
         ensures { result ≡ sending len «then» }
     {

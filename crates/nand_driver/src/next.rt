@@ -1,4 +1,4 @@
-// What follows each transfer.
+//! What follows each transfer.
 ghost use Rattle.std.specs.Prelude.{◌≡◌};
 ghost use Rattle.spi_nand.specs.BringUp.{in_bring_up};
 ghost use Rattle.nand_steps.specs.Go.{look, reset};
@@ -178,7 +178,7 @@ fn after(setup: Setup, phase: Phase, v: u64) -> Then
     }
 }
 
-// What follows a transfer's outcome. A bus error ends the call. One line in each driver, over its own `after`.
+/// What follows a transfer's outcome. A bus error ends the call. One line in each driver, over its own `after`.
 #[tactic(auto, unfolding(crate::specs::Next::next_of))]
 pub fn next(setup: Setup, phase: Phase, outcome: Outcome) -> Then
     ensures { result ≡ next_of setup phase outcome }

@@ -1,4 +1,4 @@
-// What the NAND has of its own, of which machine makes the driver. An instance of its trait: what is alike is in machine.
+//! What the NAND has of its own, of which machine makes the driver. An instance of its trait: what is alike is in machine.
 ghost use Rattle.std.specs.Prelude.{◌≡◌};
 ghost use Rattle.nand_driver.specs.Call.{nand_calls, not_built};
 ghost use Rattle.nand_driver.specs.Step.{nand_next};
@@ -16,10 +16,13 @@ use spi_nand::config::SpiNandConfig;
 use spi_nand::phase::Phase;
 use spi_nand::setup::Setup;
 
+/// The NAND driver's state.
 pub type SpiNandFlash = state::Flash<Setup, Phase>;
 
+/// What a step of the NAND driver gives.
 pub type Stepped = state::Stepped<Setup, Phase, Answer>;
 
+/// The NAND as a part.
 #[derive(Clone, Copy)]
 pub struct Nand;
 
@@ -57,7 +60,7 @@ impl Part for Nand {
     }
 }
 
-// A driver before any construction: a line over `Flash::resting`, in which both are alike. A member of `Part` for `fresh` would be longer.
+/// A driver before any construction: a line over `Flash::resting`, in which both are alike. A member of `Part` for `fresh` would be longer.
 pub fn not_built() -> SpiNandFlash
     ensures { result ≡ not_built }
 {

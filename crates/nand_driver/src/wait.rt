@@ -1,6 +1,6 @@
-// wait_ready: the pauses and looks behind a command, and what they are for.
-// nor_driver cuts its wait alike, over other phases: a trait of the five steps that differ is longer.
-// A task and what it has waited stay two parameters: each function here would take a struct of the two apart at once.
+//! wait_ready: the pauses and looks behind a command, and what they are for.
+//! nor_driver cuts its wait alike, over other phases: a trait of the five steps that differ is longer.
+//! A task and what it has waited stay two parameters: each function here would take a struct of the two apart at once.
 ghost use Rattle.std.specs.Prelude.{◌≡◌};
 ghost use Rattle.nand_driver.specs.Wait.{reset_then, resume_task, judge_task, look_then, pause_then, wait_then, sent_then, looked_then, waiting_then};
 
@@ -116,7 +116,7 @@ fn looked(setup: Setup, task: Task, waited: u32, status: Status) -> Then
     )
 }
 
-// What follows each step of a task. A status is looked at only behind a look and at the end.
+/// What follows each step of a task. A status is looked at only behind a look and at the end.
 #[tactic(auto, unfolding(crate::specs::Wait::waiting_then))]
 pub fn waiting(setup: Setup, task: Task, at: WaitStep, status: Status) -> Then
     ensures { result ≡ waiting_then setup task at status }

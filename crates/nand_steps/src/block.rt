@@ -1,4 +1,4 @@
-// Blocks: erase_block, the bad-block marker, and mark_bad_block.
+//! Blocks: erase_block, the bad-block marker, and mark_bad_block.
 ghost use Rattle.std.specs.Prelude.{◌≡◌};
 ghost use Rattle.nand_steps.specs.Block.{erase_then, erased_then, checked_then, confirmed_then, marker_then, fill_from, filled_then, mark_then};
 
@@ -12,11 +12,12 @@ use spi_nand::setup::Setup;
 use spi_nand::status::Status;
 use spi_nand::transfer;
 
-// The marker of a good block.
+/// The marker of a good block.
 pub const GOOD_MARKER: u8 = 0xFF;
 
 // ---- erase_block
 
+/// erase_block, and its part in mark_bad_block.
 #[tactic(auto, unfolding(crate::specs::Block::erase_then))]
 pub fn erase_block(setup: Setup, block: usize, why: EraseFor) -> Then
     ensures { result ≡ erase_then setup block why }
@@ -27,7 +28,7 @@ pub fn erase_block(setup: Setup, block: usize, why: EraseFor) -> Then
     go::enable(setup, EnableFor::Erase { block, why })
 }
 
-// page::programmed tests another bit and goes on otherwise; only the two branches are alike.
+/// page::programmed tests another bit and goes on otherwise; only the two branches are alike.
 #[tactic(auto, unfolding(crate::specs::Block::erased_then))]
 pub fn erased(setup: Setup, why: EraseFor, status: Status) -> Then
     ensures { result ≡ erased_then setup why status }
@@ -62,7 +63,7 @@ fn confirmed(setup: Setup, bad: bool) -> Then
     Err(FlashError::VerifyFailed)
 }
 
-// is_bad_block's answer, and what it is for.
+/// is_bad_block's answer, and what it is for.
 #[tactic(auto, unfolding(crate::specs::Block::marker_then))]
 pub fn marker(setup: Setup, why: MarkerFor, marker: u8) -> Then
     ensures { result ≡ marker_then setup why marker }
@@ -77,7 +78,7 @@ pub fn marker(setup: Setup, why: MarkerFor, marker: u8) -> Then
 
 // ---- mark_bad_block: filler over the whole page, then the marker behind it
 
-// The loop's head: `while column < page_size`.
+/// The loop's head: `while column < page_size`.
 #[tactic(auto, unfolding(crate::specs::Block::fill_from))]
 pub fn fill(setup: Setup, block: usize, column: usize) -> Then
     ensures { result ≡ fill_from setup block column }
@@ -100,14 +101,14 @@ pub fn fill(setup: Setup, block: usize, column: usize) -> Then
     )
 }
 
-// A load of filler is done.
+/// A load of filler is done.
 pub fn filled(setup: Setup, block: usize, column: usize) -> Then
     ensures { result ≡ filled_then setup block column }
 {
     fill(setup, block, transfer::past_filler(setup.geometry, column))
 }
 
-// The cache holds filler and marker.
+/// The cache holds filler and marker.
 pub fn mark(setup: Setup, block: usize) -> Then
     ensures { result ≡ mark_then setup block }
 {

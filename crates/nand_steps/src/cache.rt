@@ -1,4 +1,4 @@
-// The chip's cache: what is read from it and loaded into it.
+//! The chip's cache: what is read from it and loaded into it.
 ghost use Rattle.std.specs.Prelude.{◌≡◌};
 ghost use Rattle.spi_flash.specs.Range.{checked};
 ghost use Rattle.spi_nand.specs.Transfer.{in_cache};
@@ -22,6 +22,7 @@ fn check_cache_range(geometry: NandGeometry, column: usize, length: usize) -> Re
     range::checked(transfer::in_cache(geometry, column, length))
 }
 
+/// read_cache, and every read of the cache in another call.
 #[tactic(auto, unfolding(crate::specs::Cache::read_cache_then))]
 pub fn read_cache(setup: Setup, column: usize, len: usize, sink: Sink, phase: Phase) -> Then
     ensures { result ≡ read_cache_then setup column len sink phase }
@@ -40,21 +41,21 @@ fn whole(setup: Setup, sink: Sink, phase: Phase) -> Then
     read_cache(setup, 0, setup.geometry.page_size, sink, phase)
 }
 
-// read_page's whole page, into the buffer.
+/// read_page's whole page, into the buffer.
 pub fn read_whole(setup: Setup) -> Then
     ensures { result ≡ whole_then setup (Sink.Buffer 0) Phase.ReadingCache }
 {
     whole(setup, Sink::Buffer(0), Phase::ReadingCache)
 }
 
-// write_page's read-back, compared with the data.
+/// write_page's read-back, compared with the data.
 pub fn read_back(setup: Setup) -> Then
     ensures { result ≡ whole_then setup (Sink.Compare 0) Phase.Comparing }
 {
     whole(setup, Sink::Compare(0), Phase::Comparing)
 }
 
-// is_bad_block's marker, in the first spare byte.
+/// is_bad_block's marker, in the first spare byte.
 pub fn read_marker(setup: Setup, why: MarkerFor) -> Then
     ensures { result ≡ read_marker_then setup why }
 {
@@ -67,7 +68,7 @@ pub fn read_marker(setup: Setup, why: MarkerFor) -> Then
     )
 }
 
-// The piece of read behind `done` bytes.
+/// The piece of read behind `done` bytes.
 #[tactic(auto, unfolding(crate::specs::Cache::piece_then))]
 pub fn read_piece(setup: Setup, span: Span<usize>) -> Then
     ensures { result ≡ piece_then setup span.offset span.len span.done }
@@ -82,7 +83,7 @@ pub fn read_piece(setup: Setup, span: Span<usize>) -> Then
     )
 }
 
-// write_page's comparison, 0 where the bytes differ: what a transfer gives is a number, also here.
+/// write_page's comparison, 0 where the bytes differ: what a transfer gives is a number, also here.
 #[tactic(auto, unfolding(crate::specs::Cache::compared_then))]
 pub fn compared(setup: Setup, same: u64) -> Then
     ensures { result ≡ compared_then setup same }
@@ -103,7 +104,7 @@ fn payload_len(payload: Payload) -> usize
     }
 }
 
-// load_program_data: of the caller's data, of filler, or of the marker.
+/// load_program_data: of the caller's data, of filler, or of the marker.
 #[tactic(auto, unfolding(crate::specs::Cache::load_program_then))]
 pub fn load_program_data(setup: Setup, column: usize, payload: Payload, phase: Phase) -> Then
     ensures { result ≡ load_program_then setup column payload phase }

@@ -1,4 +1,4 @@
-// The steps that calls are made of.
+//! The steps that calls are made of.
 ghost use Rattle.std.specs.Prelude.{◌≡◌};
 ghost use Rattle.nand_steps.specs.Go.{done, ask, ask_id, look, verdict, send, reset, enable};
 
@@ -11,14 +11,14 @@ use spi_nand::phase::{Asked, EnableFor, EnableStep, Phase, ResetFor, Task, WaitS
 use spi_nand::setup::Setup;
 use spi_nand::{command, opcode, transfer};
 
-// `Ok(())`
+/// `Ok(())`
 pub fn done(setup: Setup) -> Then
     ensures { result ≡ done setup }
 {
     end(setup, Answer::Done)
 }
 
-// read_register
+/// read_register
 pub fn ask(setup: Setup, register: u8, asked: Asked) -> Then
     ensures { result ≡ ask setup register asked }
 {
@@ -29,7 +29,7 @@ pub fn ask(setup: Setup, register: u8, asked: Asked) -> Then
     )
 }
 
-// jedec_id
+/// jedec_id
 pub fn ask_id(setup: Setup, bring_up: bool) -> Then
     ensures { result ≡ ask_id setup bring_up }
 {
@@ -40,7 +40,7 @@ pub fn ask_id(setup: Setup, bring_up: bool) -> Then
     )
 }
 
-// A look at the status: of a wait, or of the write-enable latch.
+/// A look at the status: of a wait, or of the write-enable latch.
 pub fn look(setup: Setup, phase: Phase) -> Then
     ensures { result ≡ look setup phase }
 {
@@ -51,7 +51,7 @@ pub fn look(setup: Setup, phase: Phase) -> Then
     )
 }
 
-// How a task went, by the status behind its wait.
+/// How a task went, by the status behind its wait.
 pub fn verdict(setup: Setup, task: Task) -> Then
     ensures { result ≡ verdict setup task }
 {
@@ -64,7 +64,7 @@ pub fn verdict(setup: Setup, task: Task) -> Then
     )
 }
 
-// A command that is waited for.
+/// A command that is waited for.
 pub fn send(setup: Setup, command: Command, task: Task) -> Then
     ensures { result ≡ send setup command task }
 {
@@ -78,14 +78,14 @@ pub fn send(setup: Setup, command: Command, task: Task) -> Then
     )
 }
 
-// reset
+/// reset
 pub fn reset(setup: Setup, why: ResetFor) -> Then
     ensures { result ≡ reset setup why }
 {
     send(setup, command::reset_command(), Task::Reset(why))
 }
 
-// write_enable
+/// write_enable
 pub fn enable(setup: Setup, why: EnableFor) -> Then
     ensures { result ≡ enable setup why }
 {

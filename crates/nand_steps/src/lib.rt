@@ -1,5 +1,5 @@
-// The calls of SpiNandFlash (nand/driver.rs), cut where they use the bus: how each begins, what it does with the cache, pages and blocks,
-// and what these are made of; and the feature registers.
+//! The calls of SpiNandFlash (nand/driver.rs), cut where they use the bus: how each begins, what it does with the cache, pages and blocks,
+//! and what these are made of; and the feature registers.
 #![tactic(auto)]
 
 pub mod block;

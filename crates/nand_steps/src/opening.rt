@@ -1,4 +1,4 @@
-// How each call begins.
+//! How each call begins.
 ghost use Rattle.std.specs.Prelude.{◌≡◌};
 ghost use Rattle.machine.specs.Then.{plain, filling, sending};
 ghost use Rattle.nand_steps.specs.Cache.{read_cache_then, load_program_then};
@@ -25,7 +25,7 @@ fn given_geometry(config: SpiNandConfig) -> NandGeometry
     config.geometry.unwrap_or(NandGeometry::W25N01GV)
 }
 
-// What the driver holds before the id is known. The NOR's differs in each type and constant.
+/// What the driver holds before the id is known. The NOR's differs in each type and constant.
 pub fn fresh(config: SpiNandConfig) -> Setup
     ensures { result ≡ fresh_setup config }
 {
@@ -63,7 +63,7 @@ fn load_program_data(setup: Setup, column: usize, len: usize) -> Opening
     )
 }
 
-// Each call, with what is lent of these lengths: one arm a call.
+/// Each call, with what is lent of these lengths: one arm a call.
 #[tactic(auto, unfolding(crate::specs::Opening::opening_of))]
 pub fn opening_of(setup: Setup, call: Call, lengths: Lengths) -> Opening
     ensures { result ≡ opening_of setup call lengths.buffer lengths.«data» }

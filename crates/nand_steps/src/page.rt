@@ -1,4 +1,4 @@
-// Pages: loads, programs, and the two together.
+//! Pages: loads, programs, and the two together.
 ghost use Rattle.std.specs.Prelude.{◌≡◌, ltb};
 ghost use Rattle.spi_flash.specs.Range.{checked};
 ghost use Rattle.spi_nand.specs.Config.{page_count_of};
@@ -22,6 +22,7 @@ fn check_page(geometry: NandGeometry, page: usize) -> Result<(), FlashError>
 
 // ---- loads
 
+/// page_read, and its part in calls that load a page.
 #[tactic(auto, unfolding(crate::specs::Page::page_read_then))]
 pub fn page_read(setup: Setup, page: usize, why: LoadFor) -> Then
     ensures { result ≡ page_read_then setup page why }
@@ -37,7 +38,7 @@ fn load(setup: Setup, page: usize, why: LoadFor) -> Then
     go::send(setup, command::page_read_command(page), Task::Load(why))
 }
 
-// The page is loaded before the cache's range is tested, as in the Rust.
+/// The page is loaded before the cache's range is tested, as in the Rust.
 #[tactic(auto, unfolding(crate::specs::Page::is_bad_then))]
 pub fn is_bad_block(setup: Setup, block: usize, why: MarkerFor) -> Then
     ensures { result ≡ is_bad_then setup block why }
@@ -49,7 +50,7 @@ pub fn is_bad_block(setup: Setup, block: usize, why: MarkerFor) -> Then
     load(setup, geometry.first_page(block), LoadFor::Marker(why))
 }
 
-// The end of a load's wait: its verdict is that of the next status.
+/// The end of a load's wait: its verdict is that of the next status.
 #[tactic(auto, unfolding(crate::specs::Page::loaded_then))]
 pub fn loaded(setup: Setup, why: LoadFor) -> Then
     ensures { result ≡ loaded_then setup why }
@@ -60,7 +61,7 @@ pub fn loaded(setup: Setup, why: LoadFor) -> Then
     accepted(setup, why)
 }
 
-// Only verdict 2 is refused.
+/// Only verdict 2 is refused.
 #[tactic(auto, unfolding(crate::specs::Page::judged_then))]
 pub fn judged(setup: Setup, why: LoadFor, status: Status) -> Then
     ensures { result ≡ judged_then setup why status }
@@ -87,7 +88,7 @@ fn accepted(setup: Setup, why: LoadFor) -> Then
 
 // ---- programs
 
-// program_execute
+/// program_execute
 #[tactic(auto, unfolding(crate::specs::Page::program_then))]
 pub fn program(setup: Setup, page: usize, why: ProgramFor) -> Then
     ensures { result ≡ program_then setup page why }
@@ -100,6 +101,7 @@ pub fn program(setup: Setup, page: usize, why: ProgramFor) -> Then
     )
 }
 
+/// A program's verdict, and what the program was for.
 #[tactic(auto, unfolding(crate::specs::Page::programmed_then))]
 pub fn programmed(setup: Setup, why: ProgramFor, status: Status) -> Then
     ensures { result ≡ programmed_then setup why status }
@@ -116,6 +118,7 @@ pub fn programmed(setup: Setup, why: ProgramFor, status: Status) -> Then
 
 // ---- whole pages: the length before the page
 
+/// read_page
 #[tactic(auto, unfolding(crate::specs::Page::read_page_then))]
 pub fn read_page(setup: Setup, page: usize, len: usize) -> Then
     ensures { result ≡ read_page_then setup page len }
@@ -126,6 +129,7 @@ pub fn read_page(setup: Setup, page: usize, len: usize) -> Then
     page_read(setup, page, LoadFor::ReadPage)
 }
 
+/// write_page
 #[tactic(auto, unfolding(crate::specs::Page::write_page_then))]
 pub fn write_page(setup: Setup, page: usize, len: usize) -> Then
     ensures { result ≡ write_page_then setup page len }

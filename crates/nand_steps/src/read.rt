@@ -1,4 +1,4 @@
-// read, page by page: each piece waits for the load of its page and for the verdict.
+//! read, page by page: each piece waits for the load of its page and for the verdict.
 ghost use Rattle.std.specs.Prelude.{◌≡◌};
 ghost use Rattle.spi_flash.specs.Range.{checked};
 ghost use Rattle.spi_nand.specs.Transfer.{in_range};
@@ -20,7 +20,7 @@ fn check_range(geometry: NandGeometry, offset: usize, length: usize) -> Result<(
     range::checked(transfer::in_range(geometry, offset, length))
 }
 
-// The NOR's `read` begins alike, over the Rust's other type of offset and other pieces: what they share is range_in_bounds and Span.
+/// The NOR's `read` begins alike, over the Rust's other type of offset and other pieces: what they share is range_in_bounds and Span.
 #[tactic(auto, unfolding(crate::specs::Read::read_then))]
 pub fn read(setup: Setup, offset: usize, len: usize) -> Then
     ensures { result ≡ read_then setup offset len }
@@ -44,7 +44,7 @@ fn read_from(setup: Setup, span: Span<usize>) -> Then
     go::done(setup)
 }
 
-// A piece is in the buffer.
+/// A piece is in the buffer.
 pub fn piece_read(setup: Setup, span: Span<usize>) -> Then
     ensures { result ≡ piece_read_then setup span.offset span.len span.done }
 {

@@ -1,4 +1,4 @@
-// The feature registers: bring_up, ensure_configuration, unprotect, disable_quad.
+//! The feature registers: bring_up, ensure_configuration, unprotect, disable_quad.
 ghost use Rattle.std.specs.Prelude.{◌≡◌};
 ghost use Rattle.nand_steps.specs.Go.{enable};
 ghost use Rattle.spi_nand.specs.Config.{wanted_for};
@@ -14,10 +14,10 @@ use spi_nand::phase::{Asked, EnableFor, RegisterFor};
 use spi_nand::setup::Setup;
 use spi_nand::status::{Configuration, Protection};
 
-// The largest page that a read-back is made of.
+/// The largest page that a read-back is made of.
 pub const MAX_VERIFY_PAGE_SIZE: usize = 4096;
 
-// The id in the number that READ ID gives. No From<u64>: not each number is an id.
+/// The id in the number that READ ID gives. No From<u64>: not each number is an id.
 #[tactic(auto, unfolding(spi_nand::specs::Config::jedec_id_of))]
 pub fn id_of(v: u64) -> NandJedecId
     ensures { result ≡ id_of v }
@@ -37,8 +37,8 @@ fn geometry_for(setup: Setup, id: NandJedecId) -> NandGeometry
     }
 }
 
-// bring_up, once the id has been read. A page that is too large is refused before anything is written to the part. The NOR's tests its
-// page alike, and says why there is no common form.
+/// bring_up, once the id has been read. A page that is too large is refused before anything is written to the part. The NOR's tests its
+/// page alike, and says why there is no common form.
 #[tactic(auto, unfolding(crate::specs::Register::identified_then))]
 pub fn identified(setup: Setup, id: NandJedecId) -> Then
     ensures { result ≡ identified_then setup id }
@@ -85,8 +85,8 @@ fn wanted(config: SpiNandConfig, before: Configuration) -> Configuration
     }
 }
 
-// Here and below a register as it was read and `bring_up` stay two parameters: each function takes a struct of the two apart at once.
-// The register as it was read: it is written where it is not as wanted.
+/// Here and below a register as it was read and `bring_up` stay two parameters: each function takes a struct of the two apart at once.
+/// The register as it was read: it is written where it is not as wanted.
 #[tactic(auto, unfolding(crate::specs::Register::configure_then, spi_nand::specs::Status::same_configuration))]
 pub fn configure(setup: Setup, before: Configuration, bring_up: bool) -> Then
     ensures { result ≡ configure_then setup before bring_up }
@@ -118,7 +118,7 @@ fn configured(setup: Setup, before: Configuration, bring_up: bool) -> Then
     go::end(setup, Answer::Configuration(before))
 }
 
-// The register read back.
+/// The register read back.
 #[tactic(auto, unfolding(crate::specs::Register::check_configuration, spi_nand::specs::Status::same_configuration))]
 pub fn check_configuration(
     setup: Setup,
@@ -136,6 +136,7 @@ pub fn check_configuration(
 
 // ---- unprotect: the course of ensure_configuration, with another register, test and end
 
+/// The register as it was read: it is written where it locks a block.
 #[tactic(auto, unfolding(crate::specs::Register::unprotect_then))]
 pub fn unprotect(setup: Setup, before: Protection, bring_up: bool) -> Then
     ensures { result ≡ unprotect_then setup before bring_up }
@@ -166,7 +167,7 @@ fn unprotected(setup: Setup, before: Protection, bring_up: bool) -> Then
     go::end(setup, Answer::Protection(before))
 }
 
-// with_config's end.
+/// with_config's end.
 pub fn brought_up(setup: Setup, after: Configuration) -> Then
     ensures { result ≡ brought_up setup after }
 {
@@ -175,6 +176,7 @@ pub fn brought_up(setup: Setup, after: Configuration) -> Then
 
 // ---- disable_quad
 
+/// The register as it was read: it is written where quad mode is on.
 #[tactic(auto, unfolding(crate::specs::Register::disable_quad))]
 pub fn disable_quad(setup: Setup, before: Configuration) -> Then
     ensures { result ≡ disable_quad setup before }
@@ -191,6 +193,7 @@ pub fn disable_quad(setup: Setup, before: Configuration) -> Then
     go::done(setup)
 }
 
+/// The register read back.
 #[tactic(auto, unfolding(crate::specs::Register::quad_disabled))]
 pub fn quad_disabled(setup: Setup, after: Configuration) -> Then
     ensures { result ≡ quad_disabled setup after }
@@ -203,6 +206,7 @@ pub fn quad_disabled(setup: Setup, after: Configuration) -> Then
 
 // ---- the end of write_register's wait
 
+/// What the register was written for.
 #[tactic(auto, unfolding(crate::specs::Register::written_then))]
 pub fn written(setup: Setup, why: RegisterFor) -> Then
     ensures { result ≡ written_then setup why }

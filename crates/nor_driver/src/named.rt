@@ -13,12 +13,14 @@ use qspi::loan::{Lengths, Loan};
 use spi_nor::call::Call;
 use spi_nor::config::SpiNorConfig;
 
+/// Constructs a driver of the part that its id tells, on a single line.
 pub fn new(flash: SpiNorFlash, scratch: &[u8]) -> Stepped
     ensures { result ≡ begin_of flash Call.New (length scratch.now) 0 0 }
 {
     begin::<Nor>(flash, Call::New, Lengths::of_scratch(scratch))
 }
 
+/// Constructs a driver with these settings: its quad mode, and the device where it is given.
 pub fn with_config(flash: SpiNorFlash, config: SpiNorConfig, scratch: &[u8]) -> Stepped
     ensures { result ≡ begin_of flash (Call.WithConfig config) (length scratch.now) 0 0 }
 {
@@ -29,78 +31,91 @@ pub fn with_config(flash: SpiNorFlash, config: SpiNorConfig, scratch: &[u8]) -> 
     )
 }
 
+/// The settings that the driver was constructed with.
 pub fn config(flash: SpiNorFlash) -> Stepped
     ensures { result ≡ begin_of flash Call.Config 0 0 0 }
 {
     begin::<Nor>(flash, Call::Config, Lengths::of_scratch(&[]))
 }
 
+/// The device that is driven: its sizes.
 pub fn device(flash: SpiNorFlash) -> Stepped
     ensures { result ≡ begin_of flash Call.Device 0 0 0 }
 {
     begin::<Nor>(flash, Call::Device, Lengths::of_scratch(&[]))
 }
 
+/// The id that was read at the construction.
 pub fn id(flash: SpiNorFlash) -> Stepped
     ensures { result ≡ begin_of flash Call.Id 0 0 0 }
 {
     begin::<Nor>(flash, Call::Id, Lengths::of_scratch(&[]))
 }
 
+/// Ends the driver: it is no longer built.
 pub fn free(flash: SpiNorFlash) -> Stepped
     ensures { result ≡ begin_of flash Call.Free 0 0 0 }
 {
     begin::<Nor>(flash, Call::Free, Lengths::of_scratch(&[]))
 }
 
+/// Reads status register 1.
 pub fn read_status1(flash: SpiNorFlash, scratch: &[u8]) -> Stepped
     ensures { result ≡ begin_of flash Call.ReadStatus1 (length scratch.now) 0 0 }
 {
     begin::<Nor>(flash, Call::ReadStatus1, Lengths::of_scratch(scratch))
 }
 
+/// Reads status register 2.
 pub fn read_status2(flash: SpiNorFlash, scratch: &[u8]) -> Stepped
     ensures { result ≡ begin_of flash Call.ReadStatus2 (length scratch.now) 0 0 }
 {
     begin::<Nor>(flash, Call::ReadStatus2, Lengths::of_scratch(scratch))
 }
 
+/// Whether the part is busy.
 pub fn is_busy(flash: SpiNorFlash, scratch: &[u8]) -> Stepped
     ensures { result ≡ begin_of flash Call.IsBusy (length scratch.now) 0 0 }
 {
     begin::<Nor>(flash, Call::IsBusy, Lengths::of_scratch(scratch))
 }
 
+/// Reads the part's id.
 pub fn jedec_id(flash: SpiNorFlash, scratch: &[u8]) -> Stepped
     ensures { result ≡ begin_of flash Call.JedecId (length scratch.now) 0 0 }
 {
     begin::<Nor>(flash, Call::JedecId, Lengths::of_scratch(scratch))
 }
 
+/// Reads the part's own number of 64 bits.
 pub fn unique_id(flash: SpiNorFlash, scratch: &[u8]) -> Stepped
     ensures { result ≡ begin_of flash Call.UniqueId (length scratch.now) 0 0 }
 {
     begin::<Nor>(flash, Call::UniqueId, Lengths::of_scratch(scratch))
 }
 
+/// Whether quad mode is on, in either status register.
 pub fn quad_enabled(flash: SpiNorFlash, scratch: &[u8]) -> Stepped
     ensures { result ≡ begin_of flash Call.QuadEnabled (length scratch.now) 0 0 }
 {
     begin::<Nor>(flash, Call::QuadEnabled, Lengths::of_scratch(scratch))
 }
 
+/// Turns quad mode on.
 pub fn enable_quad(flash: SpiNorFlash, scratch: &[u8]) -> Stepped
     ensures { result ≡ begin_of flash Call.EnableQuad (length scratch.now) 0 0 }
 {
     begin::<Nor>(flash, Call::EnableQuad, Lengths::of_scratch(scratch))
 }
 
+/// Turns quad mode off.
 pub fn disable_quad(flash: SpiNorFlash, scratch: &[u8]) -> Stepped
     ensures { result ≡ begin_of flash Call.DisableQuad (length scratch.now) 0 0 }
 {
     begin::<Nor>(flash, Call::DisableQuad, Lengths::of_scratch(scratch))
 }
 
+/// Fills the buffer with the part's bytes from an offset on.
 pub fn read(flash: SpiNorFlash, offset: u32, scratch: &[u8], buffer: &[u8]) -> Stepped
     ensures { result ≡ begin_of flash (Call.Read offset) (length scratch.now) (length buffer.now) 0 }
 {
@@ -111,6 +126,7 @@ pub fn read(flash: SpiNorFlash, offset: u32, scratch: &[u8], buffer: &[u8]) -> S
     )
 }
 
+/// Programs the data from an offset on, page by page, and reads each page back.
 pub fn write(flash: SpiNorFlash, offset: u32, scratch: &[u8], data: &[u8]) -> Stepped
     ensures { result ≡ begin_of flash (Call.Write offset) (length scratch.now) 0 (length «data».now) }
 {
@@ -121,12 +137,14 @@ pub fn write(flash: SpiNorFlash, offset: u32, scratch: &[u8], data: &[u8]) -> St
     )
 }
 
+/// Clears the block protection in both status registers.
 pub fn unprotect(flash: SpiNorFlash, scratch: &[u8]) -> Stepped
     ensures { result ≡ begin_of flash Call.Unprotect (length scratch.now) 0 0 }
 {
     begin::<Nor>(flash, Call::Unprotect, Lengths::of_scratch(scratch))
 }
 
+/// Erases a range, in blocks where one fits and sectors elsewhere.
 pub fn erase(flash: SpiNorFlash, from: u32, to: u32, scratch: &[u8]) -> Stepped
     ensures { result ≡ begin_of flash (Call.Erase from to) (length scratch.now) 0 0 }
 {
@@ -137,6 +155,7 @@ pub fn erase(flash: SpiNorFlash, from: u32, to: u32, scratch: &[u8]) -> Stepped
     )
 }
 
+/// Erases the sector at an offset.
 pub fn erase_sector(flash: SpiNorFlash, offset: u32, scratch: &[u8]) -> Stepped
     ensures { result ≡ begin_of flash (Call.EraseSector offset) (length scratch.now) 0 0 }
 {
@@ -147,6 +166,7 @@ pub fn erase_sector(flash: SpiNorFlash, offset: u32, scratch: &[u8]) -> Stepped
     )
 }
 
+/// Erases the block at an offset.
 pub fn erase_block(flash: SpiNorFlash, offset: u32, scratch: &[u8]) -> Stepped
     ensures { result ≡ begin_of flash (Call.EraseBlock offset) (length scratch.now) 0 0 }
 {

@@ -1,4 +1,4 @@
-// What follows each transfer: the Rust's calls, cut where they use the bus.
+//! What follows each transfer: the Rust's calls, cut where they use the bus.
 ghost use Rattle.std.specs.Prelude.{◌≡◌};
 ghost use Rattle.nor_driver.specs.Next.{after_phase, next_of};
 
@@ -48,7 +48,7 @@ fn after(setup: Setup, phase: Phase, v: u64) -> Then
     }
 }
 
-// What follows a transfer's outcome. A bus error ends the call. One line in each driver, over its own `after`.
+/// What follows a transfer's outcome. A bus error ends the call. One line in each driver, over its own `after`.
 #[tactic(auto, unfolding(crate::specs::Next::next_of))]
 pub fn next(setup: Setup, phase: Phase, outcome: Outcome) -> Then
     ensures { result ≡ next_of setup phase outcome }

@@ -1,4 +1,4 @@
-// What the NOR has of its own, of which machine makes the driver. An instance of its trait: what is alike is in machine.
+//! What the NOR has of its own, of which machine makes the driver. An instance of its trait: what is alike is in machine.
 ghost use Rattle.std.specs.Prelude.{◌≡◌};
 ghost use Rattle.nor_driver.specs.Call.{nor_calls, not_built};
 ghost use Rattle.nor_driver.specs.Step.{nor_next};
@@ -16,10 +16,13 @@ use spi_nor::config::SpiNorConfig;
 use spi_nor::phase::Phase;
 use spi_nor::setup::Setup;
 
+/// The NOR driver's state.
 pub type SpiNorFlash = state::Flash<Setup, Phase>;
 
+/// What a step of the NOR driver gives.
 pub type Stepped = state::Stepped<Setup, Phase, Answer>;
 
+/// The NOR as a part.
 #[derive(Clone, Copy)]
 pub struct Nor;
 
@@ -57,7 +60,7 @@ impl Part for Nor {
     }
 }
 
-// A driver before any construction: a line over `Flash::resting`, in which both are alike. A member of `Part` for `fresh` would be longer.
+/// A driver before any construction: a line over `Flash::resting`, in which both are alike. A member of `Part` for `fresh` would be longer.
 pub fn not_built() -> SpiNorFlash
     ensures { result ≡ not_built }
 {

@@ -1,6 +1,6 @@
-// A write to the part: its command behind write_enable, and wait_ready.
-// nand_driver cuts its wait alike, over other phases: a trait of the five steps that differ is longer.
-// A task and what it has waited stay two parameters: each function here would take a struct of the two apart at once.
+//! A write to the part: its command behind write_enable, and wait_ready.
+//! nand_driver cuts its wait alike, over other phases: a trait of the five steps that differ is longer.
+//! A task and what it has waited stay two parameters: each function here would take a struct of the two apart at once.
 ghost use Rattle.std.specs.Prelude.{◌≡◌};
 ghost use Rattle.nor_driver.specs.Wait.{latch_then, latched_then, resume_task, look_then, pause_then, wait_then, sent_then, looked_then, writing_then};
 
@@ -135,7 +135,7 @@ fn looked(setup: Setup, task: Task, waited: u32, status1: u8) -> Then
     )
 }
 
-// What follows each step of a task. The status is looked at only behind a look.
+/// What follows each step of a task. The status is looked at only behind a look.
 #[tactic(auto, unfolding(crate::specs::Wait::writing_then))]
 pub fn writing(setup: Setup, task: Task, at: WriteStep, status1: u8) -> Then
     ensures { result ≡ writing_then setup task at status1 }

@@ -1,4 +1,4 @@
-// erase, unit by unit, and both single erases. Address and end stay two, as in the Rust: each is compared or passed on at once.
+//! erase, unit by unit, and both single erases. Address and end stay two, as in the Rust: each is compared or passed on at once.
 ghost use Rattle.std.specs.Prelude.{◌≡◌};
 ghost use Rattle.nor_steps.specs.Erase.{erase_unit, erase_from, erase_then, erase_one};
 
@@ -11,7 +11,7 @@ use spi_nor::phase::{EraseKind, Task};
 use spi_nor::setup::Setup;
 use spi_nor::transfer;
 
-// erase_sector and erase_block, and their part in `erase`.
+/// erase_sector and erase_block, and their part in `erase`.
 #[tactic(auto, unfolding(crate::specs::Erase::erase_unit, spi_nor::specs::Transfer::multiple_of))]
 pub fn erase_unit(setup: Setup, kind: EraseKind, address: u32, end: u32) -> Then
     ensures { result ≡ erase_unit setup kind address end }
@@ -26,7 +26,7 @@ pub fn erase_unit(setup: Setup, kind: EraseKind, address: u32, end: u32) -> Then
     go::enabled(setup, Task::Erase { kind, address, end })
 }
 
-// The next step of `erase`, or its end.
+/// The next step of `erase`, or its end.
 #[tactic(auto, unfolding(crate::specs::Erase::erase_from))]
 pub fn erase_from(setup: Setup, address: u32, end_at: u32) -> Then
     ensures { result ≡ erase_from setup address end_at }
@@ -42,7 +42,7 @@ pub fn erase_from(setup: Setup, address: u32, end_at: u32) -> Then
     go::end(setup, Answer::Done)
 }
 
-// `erase` from its beginning: the range before the alignment.
+/// `erase` from its beginning: the range before the alignment.
 #[tactic(auto, unfolding(crate::specs::Erase::erase_then, spi_nor::specs::Transfer::multiple_of))]
 pub fn erase_then(setup: Setup, from: u32, to: u32) -> Then
     ensures { result ≡ erase_then setup from to }
@@ -57,7 +57,7 @@ pub fn erase_then(setup: Setup, from: u32, to: u32) -> Then
     erase_from(setup, from, to)
 }
 
-// A sector or block for itself.
+/// A sector or block for itself.
 pub fn erase_one(setup: Setup, kind: EraseKind, offset: u32) -> Then
     ensures { result ≡ erase_one setup kind offset }
 {

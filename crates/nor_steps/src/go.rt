@@ -1,4 +1,4 @@
-// The steps that calls are made of.
+//! The steps that calls are made of.
 ghost use Rattle.std.specs.Prelude.{◌≡◌};
 ghost use Rattle.spi_flash.specs.Number.{number_transfer};
 ghost use Rattle.nor_steps.specs.Go.{go_to, read1_then, read2_then, read_id_then, read_unique_id_then, enabled_then, done_if, supported_if};
@@ -21,31 +21,35 @@ fn read(setup: Setup, command: Command, len: usize, phase: Phase) -> Then
     go(setup, number::number_transfer(command, len), phase)
 }
 
+/// read_status1
 pub fn read1(setup: Setup, phase: Phase) -> Then
     ensures { result ≡ read1_then setup phase }
 {
     read(setup, command::read_status1_command(), 1, phase)
 }
 
+/// read_status2
 pub fn read2(setup: Setup, phase: Phase) -> Then
     ensures { result ≡ read2_then setup phase }
 {
     read(setup, command::read_status2_command(), 1, phase)
 }
 
+/// jedec_id
 pub fn read_id(setup: Setup, phase: Phase) -> Then
     ensures { result ≡ read_id_then setup phase }
 {
     read(setup, command::read_id_command(), 3, phase)
 }
 
+/// unique_id
 pub fn read_unique_id(setup: Setup, phase: Phase) -> Then
     ensures { result ≡ read_unique_id_then setup phase }
 {
     read(setup, command::read_unique_id_command(), 8, phase)
 }
 
-// As the NAND's `enable`, over the NOR's phases.
+/// As the NAND's `enable`, over the NOR's phases.
 pub fn enabled(setup: Setup, task: Task) -> Then
     ensures { result ≡ enabled_then setup task }
 {
@@ -59,7 +63,7 @@ pub fn enabled(setup: Setup, task: Task) -> Then
     )
 }
 
-// The call is done where the test holds, and else goes on.
+/// The call is done where the test holds, and else goes on.
 pub fn done_if(test: bool, setup: Setup, other: Then) -> Then
     ensures { result ≡ done_if test setup other }
 {
@@ -69,7 +73,7 @@ pub fn done_if(test: bool, setup: Setup, other: Then) -> Then
     other
 }
 
-// The part has taken the quad bit as it was written, or does not support that.
+/// The part has taken the quad bit as it was written, or does not support that.
 pub fn supported_if(test: bool, setup: Setup) -> Then
     ensures { result ≡ supported_if test setup }
 {

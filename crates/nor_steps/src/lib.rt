@@ -1,5 +1,5 @@
-// The calls of SpiNorFlash (nor/driver.rs), cut where they use the bus: how each begins, its reads, writes and erases, and what these are
-// made of; and the status registers.
+//! The calls of SpiNorFlash (nor/driver.rs), cut where they use the bus: how each begins, its reads, writes and erases, and what these are
+//! made of; and the status registers.
 #![tactic(auto)]
 
 pub mod erase;

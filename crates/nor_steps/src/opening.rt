@@ -1,4 +1,4 @@
-// How each call begins.
+//! How each call begins.
 ghost use Rattle.std.specs.Prelude.{◌≡◌};
 ghost use Rattle.nor_steps.specs.Opening.{given_device, fresh_setup, opening_of};
 
@@ -18,7 +18,7 @@ fn given_device(config: SpiNorConfig) -> NorDeviceInfo
     config.device.unwrap_or(NorDeviceInfo::W25Q128JV)
 }
 
-// What the driver holds before the id is known: the Rust's zeros, in place of a None. The NAND's differs in each type and constant.
+/// What the driver holds before the id is known: the Rust's zeros, in place of a None. The NAND's differs in each type and constant.
 pub fn fresh(config: SpiNorConfig) -> Setup
     ensures { result ≡ fresh_setup config }
 {
@@ -33,7 +33,7 @@ pub fn fresh(config: SpiNorConfig) -> Setup
     }
 }
 
-// Each call, with what is lent of these lengths.
+/// Each call, with what is lent of these lengths.
 #[tactic(auto, unfolding(crate::specs::Opening::opening_of))]
 pub fn opening_of(setup: Setup, call: Call, lengths: Lengths) -> Opening
     ensures { result ≡ opening_of setup call lengths.buffer lengths.«data» }

@@ -1,4 +1,4 @@
-// read, piece by piece.
+//! read, piece by piece.
 ghost use Rattle.std.specs.Prelude.{◌+◌, ◌≡◌};
 ghost use Rattle.spi_nor.specs.Transfer.{chunk_of};
 ghost use Rattle.nor_steps.specs.Read.{read_from, read_then};
@@ -14,7 +14,7 @@ use spi_nor::phase::Phase;
 use spi_nor::setup::Setup;
 use spi_nor::transfer;
 
-// The next piece of `read`, or its end.
+/// The next piece of `read`, or its end.
 #[tactic(auto, unfolding(crate::specs::Read::read_from))]
 pub fn read_from(setup: Setup, span: Span<u32>) -> Then
     ensures { result ≡ read_from setup span.offset span.len span.done }
@@ -34,7 +34,7 @@ pub fn read_from(setup: Setup, span: Span<u32>) -> Then
     go::end(setup, Answer::Done)
 }
 
-// `read` from its beginning: the range is tested first. The NAND's begins alike, over the Rust's other type of offset and other pieces.
+/// `read` from its beginning: the range is tested first. The NAND's begins alike, over the Rust's other type of offset and other pieces.
 #[tactic(auto, unfolding(crate::specs::Read::read_then))]
 pub fn read_then(setup: Setup, offset: u32, len: usize) -> Then
     ensures { result ≡ read_then setup offset len }
@@ -45,7 +45,7 @@ pub fn read_then(setup: Setup, offset: u32, len: usize) -> Then
     read_from(setup, Span::whole(offset, len))
 }
 
-// `done += length`
+/// `done += length`
 pub fn piece_read(setup: Setup, span: Span<u32>) -> Then
     ensures { result ≡ read_from setup span.offset span.len (span.done + chunk_of span.len span.done) }
 {

@@ -1,4 +1,4 @@
-// The status registers: the identification in with_config, and quad mode.
+//! The status registers: the identification in with_config, and quad mode.
 ghost use Rattle.std.specs.Prelude.{◌≡◌};
 ghost use Rattle.spi_nor.specs.Status.{quad_enabled1_of, quad_enabled2_of};
 ghost use Rattle.nor_steps.specs.Go.{read1_then, read2_then, done_if};
@@ -13,10 +13,10 @@ use spi_nor::phase::{Phase, Task};
 use spi_nor::setup::Setup;
 use spi_nor::status;
 
-// The largest page that a read-back is made of.
+/// The largest page that a read-back is made of.
 pub const MAX_VERIFY_PAGE_SIZE: usize = 512;
 
-// The id in the number that READ ID gives. No From<u64>: not each number is an id. (The NAND's likewise: its id is another type.)
+/// The id in the number that READ ID gives. No From<u64>: not each number is an id. (The NAND's likewise: its id is another type.)
 pub fn id_of(v: u64) -> NorJedecId
     ensures { result ≡ id_of v }
 {
@@ -39,8 +39,8 @@ fn device_for(setup: Setup, id: NorJedecId) -> NorDeviceInfo
     }
 }
 
-// with_config, once the id has been read. A page that is too large is refused before anything is written to the part. The NAND's tests
-// its page alike; the setup, the lookup, the limit and what follows are other ones, and a trait that holds them is longer than both.
+/// with_config, once the id has been read. A page that is too large is refused before anything is written to the part. The NAND's tests
+/// its page alike; the setup, the lookup, the limit and what follows are other ones, and a trait that holds them is longer than both.
 #[tactic(auto, unfolding(crate::specs::Register::identified_then))]
 pub fn identified(setup: Setup, v: u64) -> Then
     ensures { result ≡ identified_then setup v }
@@ -61,7 +61,7 @@ pub fn identified(setup: Setup, v: u64) -> Then
     go::end(known, Answer::Done)
 }
 
-// quad_enabled, once status register 2 has been read. `disable_first` begins alike and goes on with a write: what they share is `any`.
+/// quad_enabled, once status register 2 has been read. `disable_first` begins alike and goes on with a write: what they share is `any`.
 pub fn quad_flag(setup: Setup, status2: u8) -> Then
     ensures { result ≡ quad_flag setup status2 }
 {
@@ -73,7 +73,7 @@ pub fn quad_flag(setup: Setup, status2: u8) -> Then
 
 // ---- enable_quad: two looks, each with its own bit and the other register behind it. What they share is done_if.
 
-// The bit in status register 2: where it is not set, status register 1 is read, for its own bit or to set it there.
+/// The bit in status register 2: where it is not set, status register 1 is read, for its own bit or to set it there.
 pub fn enable_by2(setup: Setup, status2: u8, next: Phase) -> Then
     ensures { result ≡ done_if (quad_enabled2_of status2) setup (read1_then setup next) }
 {
@@ -84,7 +84,7 @@ pub fn enable_by2(setup: Setup, status2: u8, next: Phase) -> Then
     )
 }
 
-// The bit in status register 1, as it was before.
+/// The bit in status register 1, as it was before.
 pub fn enable_by1(setup: Setup, status1: u8) -> Then
     ensures { result ≡ done_if (quad_enabled1_of status1) setup (read2_then setup Phase.EnableRead2) }
 {
@@ -97,7 +97,7 @@ pub fn enable_by1(setup: Setup, status1: u8) -> Then
 
 // ---- disable_quad: two looks, with another bit, task and end each
 
-// Status register 2 first: where its bit is not set, status register 1 is looked at.
+/// Status register 2 first: where its bit is not set, status register 1 is looked at.
 pub fn disable_first(setup: Setup, status2: u8) -> Then
     ensures { result ≡ disable_first setup status2 }
 {
@@ -107,6 +107,7 @@ pub fn disable_first(setup: Setup, status2: u8) -> Then
     go::read1(setup, Phase::DisableRead1)
 }
 
+/// Status register 1: where its bit is not set, quad mode is off.
 pub fn disable_second(setup: Setup, status1: u8) -> Then
     ensures { result ≡ disable_second setup status1 }
 {

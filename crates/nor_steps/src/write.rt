@@ -1,4 +1,4 @@
-// write, page by page: each is programmed and read back.
+//! write, page by page: each is programmed and read back.
 ghost use Rattle.std.specs.Prelude.{◌≡◌};
 ghost use Rattle.nor_steps.specs.Write.{program_from, verify_then, verified_then, write_then};
 
@@ -13,7 +13,7 @@ use spi_nor::phase::{Phase, Task};
 use spi_nor::setup::Setup;
 use spi_nor::transfer;
 
-// The next page of `write`, or its end.
+/// The next page of `write`, or its end.
 #[tactic(auto, unfolding(crate::specs::Write::program_from))]
 pub fn program_from(setup: Setup, span: Span<u32>) -> Then
     ensures { result ≡ program_from setup span.offset span.len span.done }
@@ -24,7 +24,7 @@ pub fn program_from(setup: Setup, span: Span<u32>) -> Then
     go::end(setup, Answer::Done)
 }
 
-// The read-back of a page, compared with the caller's data.
+/// The read-back of a page, compared with the caller's data.
 #[tactic(auto, unfolding(crate::specs::Write::verify_then))]
 pub fn verify(setup: Setup, span: Span<u32>) -> Then
     ensures { result ≡ verify_then setup span.offset span.len span.done }
@@ -41,8 +41,8 @@ pub fn verify(setup: Setup, span: Span<u32>) -> Then
     )
 }
 
-// The comparison's number, 0 where the bytes differ: what a transfer gives is a number, also here. (The NAND's `compared` likewise, with
-// another end.)
+/// The comparison's number, 0 where the bytes differ: what a transfer gives is a number, also here. (The NAND's `compared` likewise, with
+/// another end.)
 #[tactic(auto, unfolding(crate::specs::Write::verified_then))]
 pub fn verified(setup: Setup, span: Span<u32>, same: u64) -> Then
     ensures { result ≡ verified_then setup span.offset span.len span.done same }
@@ -53,7 +53,7 @@ pub fn verified(setup: Setup, span: Span<u32>, same: u64) -> Then
     program_from(setup, transfer::past_page(setup.device, span))
 }
 
-// `write` from its beginning: the range before the alignment.
+/// `write` from its beginning: the range before the alignment.
 #[tactic(auto, unfolding(crate::specs::Write::write_then, spi_nor::specs::Transfer::multiple_of))]
 pub fn write_then(setup: Setup, offset: u32, len: usize) -> Then
     ensures { result ≡ write_then setup offset len }

@@ -1,4 +1,4 @@
-// What a driver gives out and what the host hands back: in place of the Rust's trait QuadSpiBus (qspi/bus.rs).
+//! What a driver gives out and what the host hands back: in place of the Rust's trait QuadSpiBus (qspi/bus.rs).
 ghost use Rattle.std.specs.Prelude.{◌≡◌};
 ghost use Rattle.qspi.specs.Bus.{awaits_of, fits_of, on_bus};
 
@@ -10,6 +10,7 @@ pub enum Part {
     Data { from: usize, len: usize },
 }
 
+/// What a step gives out for the host to perform.
 #[derive(Clone, Copy)]
 pub enum Action {
     SelectLow,
@@ -29,12 +30,12 @@ pub enum Action {
     Delay(u32),
 }
 
-// The code of a failed bus call, which is the host's own.
+/// The code of a failed bus call, which is the host's own.
 #[derive(Clone, Copy)]
 pub struct BusError(pub u8);
 
-// The kind of a reply. The bytes of a Data reply are lent beside it: as a borrow inside, they would put a reference in place of a list
-// into each definition over replies.
+/// The kind of a reply. The bytes of a Data reply are lent beside it: as a borrow inside, they would put a reference in place of a list
+/// into each definition over replies.
 #[derive(Clone, Copy)]
 pub enum Reply {
     Done,
@@ -42,7 +43,7 @@ pub enum Reply {
     Error(u8),
 }
 
-// What an action awaits. Not an Option: each variant names which replies fit.
+/// What an action awaits. Not an Option: each variant names which replies fit.
 #[derive(Clone, Copy)]
 pub enum Awaits {
     Done,
@@ -60,7 +61,7 @@ fn awaited(action: Action) -> Awaits
     }
 }
 
-// Whether a reply with n bytes answers an action.
+/// Whether a reply with n bytes answers an action.
 #[tactic(auto, unfolding(crate::specs::Bus::fits_of))]
 pub fn fits(action: Action, reply: Reply, n: usize) -> bool
     ensures { result ≡ fits_of action reply n }
@@ -73,7 +74,7 @@ pub fn fits(action: Action, reply: Reply, n: usize) -> bool
     }
 }
 
-// Whether the bus answers the action, with a reply of its own: select and delay are the host's.
+/// Whether the bus answers the action, with a reply of its own: select and delay are the host's.
 pub fn on_bus(action: Action) -> bool
     ensures { result ≡ on_bus action }
 {

@@ -1,11 +1,12 @@
-// The shapes of command bytes that the drivers send, and their place in the scratch.
+//! The shapes of command bytes that the drivers send, and their place in the scratch.
 ghost use Rattle.std.specs.Prelude.{◌≡◌, ◌≤◌, length};
 ghost use Rattle.std.proofs.lemmas.List.Edits.{sets};
 ghost use Rattle.qspi.specs.Command.{command_bytes, with_command};
 
-// The least scratch that a host lends.
+/// The least scratch that a host lends.
 pub const SCRATCH_LEN: usize = 264;
 
+/// A command's bytes, by their shape: an opcode and what goes with it.
 #[derive(Clone, Copy)]
 pub enum Command {
     Opcode(u8),
@@ -20,6 +21,7 @@ pub enum Command {
     FourDummies(u8),
 }
 
+/// How many bytes the command has.
 pub fn command_len(command: Command) -> usize
     ensures { result ≡ length (command_bytes command) }
 {
@@ -39,7 +41,7 @@ fn put(bytes: &[u8], scratch: &mut [u8])
     scratch[..bytes.len()].copy_from_slice(bytes);
 }
 
-// Puts the command at the scratch's start. A scratch that is too short keeps every byte.
+/// Puts the command at the scratch's start. A scratch that is too short keeps every byte.
 #[tactic(auto, unfolding(crate::specs::Command::with_command))]
 pub fn put_command(command: Command, scratch: &mut [u8])
     ensures { scratch.new ≡ with_command command scratch.old }

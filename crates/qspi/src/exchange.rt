@@ -1,4 +1,4 @@
-// What a reply does to the transfer that is out: whether it fits, what is read out of it, and which action follows.
+//! What a reply does to the transfer that is out: whether it fits, what is read out of it, and which action follows.
 ghost use Rattle.std.specs.Prelude.{◌≡◌};
 ghost use Rattle.qspi.specs.Frame.{after_start, body_stage, after_command, next_stage, body_sink, sink_of, value_of, moved_on, advanced_of, taken_in, delivered_by, exchanged_to, exchange_of};
 ghost use Rattle.qspi.specs.Loan.{SameLoan, lending, returning};
@@ -95,7 +95,7 @@ fn moved_on(transfer: Transfer, following: Option<Stage>, outcome: Outcome) -> A
     }
 }
 
-// Where the frame goes on a reply that fits. After a bus error select goes high.
+/// Where the frame goes on a reply that fits. After a bus error select goes high.
 #[tactic(auto, unfolding(crate::specs::Frame::advanced_of))]
 pub fn advance(frame: Frame, reply: Reply, s: &[u8], data: &[u8]) -> Advanced
     ensures { result ≡ advanced_of frame reply s.now «data».now }
@@ -109,7 +109,7 @@ pub fn advance(frame: Frame, reply: Reply, s: &[u8], data: &[u8]) -> Advanced
     }
 }
 
-// The caller's buffer after a reply that fits: only data read for the caller changes it.
+/// The caller's buffer after a reply that fits: only data read for the caller changes it.
 #[tactic(auto, unfolding(crate::specs::Frame::taken_in))]
 pub fn take_in(frame: Frame, reply: Reply, s: &[u8], buffer: &mut [u8])
     ensures { buffer.new ≡ taken_in frame reply s.now buffer.old }
@@ -119,7 +119,7 @@ pub fn take_in(frame: Frame, reply: Reply, s: &[u8], buffer: &mut [u8])
     }
 }
 
-// One reply to the action that is out. One that does not fit changes nothing.
+/// One reply to the action that is out. One that does not fit changes nothing.
 #[tactic(auto, unfolding(crate::specs::Frame::exchange_of))]
 pub fn exchange(frame: Frame, reply: Reply, s: &[u8], lent: &mut Loan) -> Exchanged
     ensures same { SameLoan lent.old lent.new }
@@ -138,7 +138,7 @@ pub fn exchange(frame: Frame, reply: Reply, s: &[u8], lent: &mut Loan) -> Exchan
     }
 }
 
-// How many bytes of the caller's buffer are delivered after a reply that fits, where `before` were. Lengths alone: no byte is looked at.
+/// How many bytes of the caller's buffer are delivered after a reply that fits, where `before` were. Lengths alone: no byte is looked at.
 #[tactic(auto, unfolding(crate::specs::Frame::delivered_by))]
 pub fn delivered_by(
     frame: Frame,

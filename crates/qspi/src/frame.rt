@@ -1,5 +1,5 @@
-// One transfer, action by action: the Rust's `command` and `command_then_read`, cut where the bus is called.
-// This module has what a frame gives out; `exchange` has what a reply does.
+//! One transfer, action by action: the Rust's `command` and `command_then_read`, cut where the bus is called.
+//! This module has what a frame gives out; `exchange` has what a reply does.
 ghost use Rattle.std.specs.Prelude.{◌≡◌};
 ghost use Rattle.qspi.specs.Frame.{first_of, payload_part, command_part, with_payload, is_quad, start_action, command_action, body_action, payload_action, action_of, with_command_of, with_body, with_payload_of, given_scratch};
 
@@ -8,7 +8,7 @@ use crate::command::Command;
 use crate::transfer::{Body, Payload, Transfer};
 use crate::{bytes, command};
 
-// Which action of the transfer is out. Not a closure: the host holds the frame between two replies, and no function hands a closure out.
+/// Which action of the transfer is out. Not a closure: the host holds the frame between two replies, and no function hands a closure out.
 #[derive(Clone, Copy)]
 pub enum Stage {
     Start,
@@ -17,9 +17,10 @@ pub enum Stage {
     High,
 }
 
-// What the transfer came to so far: the number that was read, or the code of a failed call.
+/// What the transfer came to so far: the number that was read, or the code of a failed call.
 pub type Outcome = Result<u64, BusError>;
 
+/// A transfer under way: where it is, and what has come of it.
 #[derive(Clone, Copy)]
 pub struct Frame {
     pub transfer: Transfer,
@@ -27,15 +28,15 @@ pub struct Frame {
     pub outcome: Outcome,
 }
 
-// Not a Result: neither variant is a failure, and the outcome of a transfer that is over is one itself.
+/// Not a Result: neither variant is a failure, and the outcome of a transfer that is over is one itself.
 #[derive(Clone, Copy)]
 pub enum Advanced {
     More(Frame),
     Over(Outcome),
 }
 
-// What a reply comes to: it does not fit, another action of the transfer is given out, or the transfer is over. Not a Result: two of
-// the three go on, and which error a misfit is the driver says.
+/// What a reply comes to: it does not fit, another action of the transfer is given out, or the transfer is over. Not a Result: two of
+/// the three go on, and which error a misfit is the driver says.
 #[derive(Clone, Copy)]
 pub enum Exchanged {
     Misfit,
@@ -43,6 +44,7 @@ pub enum Exchanged {
     Over(Outcome),
 }
 
+/// A transfer of which nothing has been done.
 #[tactic(auto, unfolding(crate::specs::Frame::first_of))]
 pub fn first(transfer: Transfer) -> Frame
     ensures { result ≡ first_of transfer }
@@ -81,7 +83,7 @@ fn command_part(command: Command) -> Part
     }
 }
 
-// A quad call has the command with its data.
+/// A quad call has the command with its data.
 pub fn is_quad(body: Body) -> bool
     ensures { result ≡ is_quad body }
 {
@@ -143,7 +145,7 @@ fn payload_action(transfer: Transfer) -> Action
     }
 }
 
-// The action that is out, whose reply is awaited.
+/// The action that is out, whose reply is awaited.
 #[tactic(auto, unfolding(crate::specs::Frame::action_of))]
 pub fn pending(frame: Frame) -> Action
     ensures { result ≡ action_of frame }
@@ -201,7 +203,7 @@ fn put_at_payload(transfer: Transfer, scratch: &mut [u8])
     }
 }
 
-// Gives the frame's action out, with its command, filler or marker put into the scratch.
+/// Gives the frame's action out, with its command, filler or marker put into the scratch.
 #[tactic(auto, unfolding(crate::specs::Frame::action_of, crate::specs::Frame::given_scratch))]
 pub fn give(frame: Frame, scratch: &mut [u8]) -> Action
     ensures value { result ≡ action_of frame }

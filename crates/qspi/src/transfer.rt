@@ -1,10 +1,10 @@
-// One exchange with the chip: the Rust's command, command_then_read and the quad calls between cs_low and cs_high.
+//! One exchange with the chip: the Rust's command, command_then_read and the quad calls between cs_low and cs_high.
 ghost use Rattle.std.specs.Prelude.{◌≡◌};
 ghost use Rattle.qspi.specs.Transfer.{command_only};
 
 use crate::command::Command;
 
-// The bytes behind a command that writes. A place and a length, as in `bus::Part`.
+/// The bytes behind a command that writes. A place and a length, as in `bus::Part`.
 #[derive(Clone, Copy)]
 pub enum Payload {
     // A part of the caller's data, sent uncopied.
@@ -15,7 +15,7 @@ pub enum Payload {
     Marker,
 }
 
-// Where the bytes of a read go.
+/// Where the bytes of a read go.
 #[derive(Clone, Copy)]
 pub enum Sink {
     // A number, highest byte first: registers and ids.
@@ -26,8 +26,8 @@ pub enum Sink {
     Compare(usize),
 }
 
-// What follows a command while select is low. The quad calls have the command with their data. None is one of the arms that each reader
-// takes apart.
+/// What follows a command while select is low. The quad calls have the command with their data. None is one of the arms that each reader
+/// takes apart.
 #[derive(Clone, Copy)]
 pub enum Body {
     None,
@@ -45,6 +45,7 @@ pub enum Body {
     QuadWrite(Payload),
 }
 
+/// What a call does with the bus at once: it raises select, asks for a delay, or exchanges bytes in a frame.
 #[derive(Clone, Copy)]
 pub enum Transfer {
     // Select high alone, with which a construction begins.
@@ -54,7 +55,7 @@ pub enum Transfer {
     Framed { command: Command, body: Body },
 }
 
-// The Rust's `command`.
+/// The Rust's `command`.
 pub fn command_only(command: Command) -> Transfer
     ensures { result ≡ command_only command }
 {

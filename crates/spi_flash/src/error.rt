@@ -4,6 +4,7 @@ ghost use Rattle.spi_flash.specs.Error.{error_number, kind_of};
 
 use qspi::bus::BusError;
 
+/// Why a call has failed or has been turned away.
 #[derive(Clone, Copy, Debug, PartialEq, Eq)]
 pub enum FlashError {
     // The bus failed, with its code.
@@ -33,7 +34,7 @@ pub enum FlashError {
     TapeSpent,
 }
 
-// embedded_storage's NorFlashErrorKind.
+/// embedded_storage's NorFlashErrorKind.
 #[derive(Clone, Copy)]
 pub enum NorFlashErrorKind {
     NotAligned,
@@ -66,7 +67,7 @@ impl FlashError {
         }
     }
 
-    // A method of this name is the Rust's, and no From.
+    /// A method of this name is the Rust's, and no From.
     pub fn nor_flash_kind(self) -> NorFlashErrorKind
         ensures { result ≡ kind_of self }
     {

@@ -1,4 +1,4 @@
-// What a call takes of what a host lends at each step.
+//! What a call takes of what a host lends at each step.
 ghost use Rattle.std.specs.Prelude.{◌≡◌};
 ghost use Rattle.qspi.specs.Frame.{exchanged_to};
 ghost use Rattle.qspi.specs.Loan.{SameLoan, lending, returning};
@@ -10,8 +10,8 @@ use qspi::exchange;
 use qspi::frame::{Exchanged, Frame};
 use qspi::loan::{Lengths, Loan};
 
-// What a call takes beside the scratch, with its length at the beginning: later steps are held to that length alone.
-// Nothing is one of the arms that each reader takes apart, and no None around the other two.
+/// What a call takes beside the scratch, with its length at the beginning: later steps are held to that length alone.
+/// Nothing is one of the arms that each reader takes apart, and no None around the other two.
 #[derive(Clone, Copy)]
 pub enum Takes {
     Nothing,
@@ -19,7 +19,7 @@ pub enum Takes {
     Data(usize),
 }
 
-// Whether the lengths lent are fit for a step of the call.
+/// Whether the lengths lent are fit for a step of the call.
 #[tactic(auto, unfolding(crate::specs::Loan::ready_of))]
 pub fn ready(takes: Takes, lengths: Lengths) -> bool
     ensures { result ≡ ready_of takes lengths.scratch lengths.buffer lengths.«data» }
@@ -32,8 +32,8 @@ pub fn ready(takes: Takes, lengths: Lengths) -> bool
         }
 }
 
-// One reply to the action that is out, in a call that takes this. What is lent and not fit for it changes nothing, like a reply that
-// does not fit.
+/// One reply to the action that is out, in a call that takes this. What is lent and not fit for it changes nothing, like a reply that
+/// does not fit.
 #[tactic(auto, unfolding(crate::specs::Loan::exchange_for))]
 pub fn exchange(
     takes: Takes,

@@ -1,8 +1,8 @@
-// The rule of both drivers' `wait_ready`: look, and while busy below the limit ask another delay.
+//! The rule of both drivers' `wait_ready`: look, and while busy below the limit ask another delay.
 ghost use Rattle.std.specs.Prelude.{◌≡◌};
 ghost use Rattle.spi_flash.specs.Wait.{first_wait, next_wait};
 
-// Polling parameters in microseconds, as in nand/opcode.rs.
+/// Polling parameters in microseconds, as in nand/opcode.rs.
 #[derive(Clone, Copy, Debug)]
 pub struct Timings {
     pub initial_us: u32,
@@ -10,7 +10,7 @@ pub struct Timings {
     pub timeout_us: u32,
 }
 
-// Not a Result: `begin` cannot fail, and both drivers take the four apart in one match, whether a wait begins or goes on.
+/// Not a Result: `begin` cannot fail, and both drivers take the four apart in one match, whether a wait begins or goes on.
 #[derive(Clone, Copy)]
 pub enum Wait {
     // Look at the status.
@@ -22,7 +22,7 @@ pub enum Wait {
     Timeout,
 }
 
-// How a wait begins: with its first delay, or at once where that is 0.
+/// How a wait begins: with its first delay, or at once where that is 0.
 #[tactic(auto, unfolding(crate::specs::Wait::first_wait))]
 pub fn begin(timings: Timings) -> Wait
     ensures { result ≡ first_wait timings }
@@ -38,7 +38,7 @@ pub fn begin(timings: Timings) -> Wait
     }
 }
 
-// What follows a look, after delays of `waited` in all.
+/// What follows a look, after delays of `waited` in all.
 #[tactic(auto, unfolding(crate::specs::Wait::next_wait))]
 pub fn after_look(timings: Timings, waited: u32, busy: bool) -> Wait
     ensures { result ≡ next_wait timings waited busy }

@@ -1,5 +1,5 @@
-// A reader: a tape, and where its next record stands.
-// It reads every tape at every position; where no record fits, it gives none and stays.
+//! A reader: a tape, and where its next record stands.
+//! It reads every tape at every position; where no record fits, it gives none and stays.
 ghost use Rattle.std.specs.Prelude.{◌≡◌, ◌+◌, ◌-◌, ◌≤◌, ◌<◌, ◌^◌, length, None};
 ghost use Rattle.std.specs.Iterator.{at_most};
 ghost use Rattle.tape.specs.Tape.{header_length};
@@ -12,6 +12,7 @@ use crate::record::{
 };
 use qspi::bytes;
 
+/// A tape, and where its next record stands.
 #[derive(Clone, Copy)]
 pub struct Reader<'a> {
     pub tape: &'a [u8],
@@ -56,13 +57,14 @@ fn shaped(s: &[u8], at: usize, kind: u8, len: usize) -> Taken
 }
 
 impl<'a> Reader<'a> {
+    /// A reader at a position.
     pub fn new(tape: &'a [u8], at: usize) -> Reader<'a>
         ensures { result ≡ reader_at tape.entry at }
     {
         Reader { tape, at }
     }
 
-    // The bytes up to the trailer.
+    /// The bytes up to the trailer.
     #[tactic(auto, using(crate::proofs::Parts::part_slice, crate::proofs::Parts::none_ahead), unfolding(crate::specs::Record::ahead_of))]
     pub fn ahead(self) -> &'a [u8]
         ensures { result.now ≡ ahead_of self.entry.tape.now self.entry.at }
@@ -72,7 +74,7 @@ impl<'a> Reader<'a> {
             .unwrap_or(&[])
     }
 
-    // The record at the reader's position, and the position behind it.
+    /// The record at the reader's position, and the position behind it.
     #[tactic(auto, using(crate::proofs::Parts::room), unfolding(crate::specs::Record::taken_in))]
     pub fn taken(self) -> Taken
         ensures { result ≡ taken_at self.entry.tape.now self.entry.at }

@@ -1,4 +1,4 @@
-// The records of a tape, and where its trailer stands.
+//! The records of a tape, and where its trailer stands.
 ghost use Rattle.std.specs.Prelude.{◌≡◌, Some};
 ghost use Rattle.tape.specs.Record.{trailer_at, number_of_record, length_of, data_of, reply_of};
 
@@ -6,26 +6,31 @@ use qspi::bus::Reply;
 use qspi::bytes;
 use spi_flash::error::FlashError;
 
-// The byte that a record begins with, by its kind: numbers, since they are the tape's format. `Record` is the enum of the kinds.
+/// The byte that a record begins with, by its kind: numbers, since they are the tape's format. `Record` is the enum of the kinds.
 pub const DONE: u8 = 0;
 
+/// Data behind the header.
 pub const DATA: u8 = 1;
 
+/// The code of a failed bus call.
 pub const BUS_ERROR: u8 = 2;
 
-// The only lengths of the kinds other than data.
+/// The only lengths of the kinds other than data.
 pub const DONE_LEN: usize = 0;
 
+/// The length of a record of kind BUS_ERROR.
 pub const BUS_ERROR_LEN: usize = 1;
 
-// A header is a record's kind, and its length in three bytes.
+/// A header is a record's kind, and its length in three bytes.
 pub const KIND_LEN: usize = 1;
 
+/// The bytes of a header.
 pub const HEADER_LEN: usize = 4;
 
-// The trailer is the first record's position, in three bytes.
+/// The trailer is the first record's position, in three bytes.
 pub const TRAILER_LEN: usize = 3;
 
+/// A record, by its kind.
 #[derive(Clone, Copy)]
 pub enum Record {
     Done,
@@ -34,7 +39,7 @@ pub enum Record {
     BusError(u8),
 }
 
-// Not an Option of both: without a record the position is the reader's own, and the definition that walks a tape goes by it.
+/// Not an Option of both: without a record the position is the reader's own, and the definition that walks a tape goes by it.
 #[derive(Clone, Copy)]
 pub struct Taken {
     pub given: Option<Record>,
@@ -42,7 +47,7 @@ pub struct Taken {
     pub next: usize,
 }
 
-// Where the trailer starts.
+/// Where the trailer starts.
 pub fn trailer_at(tape: &[u8]) -> usize
     ensures { result ≡ trailer_at tape.now }
 {
@@ -50,7 +55,7 @@ pub fn trailer_at(tape: &[u8]) -> usize
 }
 
 impl Record {
-    // The tape's number of it, as above.
+    /// The tape's number of it, as above.
     pub fn kind(self) -> u8
         ensures { result ≡ number_of_record (Some self) }
     {
@@ -61,7 +66,7 @@ impl Record {
         }
     }
 
-    // The length in the record's header.
+    /// The length in the record's header.
     pub fn len(self) -> usize
         ensures { result ≡ length_of (Some self) }
     {
@@ -72,7 +77,7 @@ impl Record {
         }
     }
 
-    // The bytes of data, as that part of the tape itself.
+    /// The bytes of data, as that part of the tape itself.
     pub fn data(self, tape: &[u8]) -> &[u8]
         ensures { result.now ≡ data_of tape.now (Some self) }
     {
@@ -82,7 +87,7 @@ impl Record {
         }
     }
 
-    // The reply that the record holds. No From: the reply's bytes are given beside it.
+    /// The reply that the record holds. No From: the reply's bytes are given beside it.
     pub fn reply(self) -> Reply
         ensures { result ≡ reply_of (Some self) }
     {
@@ -94,8 +99,8 @@ impl Record {
     }
 }
 
-// The number of an answer: a record's kind, or the refusal's. Like the length below it says a number of None too: what was promised of an
-// answer without a record stays promised.
+/// The number of an answer: a record's kind, or the refusal's. Like the length below it says a number of None too: what was promised of an
+/// answer without a record stays promised.
 pub fn number(answer: Option<Record>) -> u8
     ensures { result ≡ number_of_record answer }
 {
@@ -105,7 +110,7 @@ pub fn number(answer: Option<Record>) -> u8
     }
 }
 
-// The length in the answer's header; 0 where it has none.
+/// The length in the answer's header; 0 where it has none.
 pub fn length(answer: Option<Record>) -> usize
     ensures { result ≡ length_of answer }
 {

@@ -1,4 +1,4 @@
-// A call over a tape, step by step.
+//! A call over a tape, step by step.
 ghost use Rattle.std.specs.Prelude.{◌≡◌};
 ghost use Rattle.qspi.specs.Loan.{SameLoan, lending, returning};
 ghost use Rattle.tape.specs.Replaying.{begun_over, plain_over, record_over, advanced_over, played_to};
@@ -14,8 +14,8 @@ use qspi::bus::Reply;
 use qspi::loan::{Lengths, Loan};
 use spi_flash::error::FlashError;
 
-// The driver with what it gave last, and the position of the reader's next record: the tape itself is lent at each step. No Option where
-// no tape was begun: a replay that has ended is not read on, whatever its position.
+/// The driver with what it gave last, and the position of the reader's next record: the tape itself is lent at each step. No Option where
+/// no tape was begun: a replay that has ended is not read on, whatever its position.
 #[derive(Clone, Copy)]
 pub struct Replay<S, P, A> {
     pub stepped: Stepped<S, P, A>,
@@ -23,6 +23,7 @@ pub struct Replay<S, P, A> {
 }
 
 impl<S, P, A> Replay<S, P, A> {
+    /// A replay of which this was given last, with the reader at a position.
     pub fn new(stepped: Stepped<S, P, A>, at: usize) -> Replay<S, P, A>
         ensures { result ≡ replay_at stepped at }
     {
@@ -30,9 +31,10 @@ impl<S, P, A> Replay<S, P, A> {
     }
 }
 
+/// A replay of the part's driver.
 pub type ReplayOf<D> = Replay<<D as Part>::Setup, <D as Part>::Phase, <D as Part>::Answer>;
 
-// The whole tape is judged before the call is looked at.
+/// The whole tape is judged before the call is looked at.
 #[tactic(auto, unfolding(crate::specs::Replaying::begun_over))]
 pub fn begin<D: Part>(
     flash: FlashOf<D>,
@@ -71,7 +73,7 @@ fn recorded<D: Part>(flash: FlashOf<D>, mut reader: Reader, lent: &mut Loan) -> 
     Replay::new(stepped, reader.at)
 }
 
-// Performs the action that is out. A replay that has come to an end stays as it is.
+/// Performs the action that is out. A replay that has come to an end stays as it is.
 #[tactic(auto, unfolding(crate::specs::Replaying::advanced_over, crate::specs::Replaying::advanced_then))]
 pub fn advance<D: Part>(replay: ReplayOf<D>, tape: &[u8], lent: &mut Loan) -> ReplayOf<D>
     ensures same { SameLoan lent.old lent.new }
