@@ -35,7 +35,7 @@ use Rattle.spi_nand.specs.declared.call.Call.{Call}
 use Rattle.spi_nand.specs.declared.setup.Setup.{Setup}
 use Rattle.spi_nand.specs.Setup.{init_of}
 use Rattle.nand_driver.specs.Settle.{SpiNandFlash}
-use Rattle.nand_runs.specs.AsRust.{rust_driver, identification, BeginsIdentifying, configured_then_refused, identified_then_refused, refused_by, refused_heeding, but_large, AsRust}
+use Rattle.nand_runs.specs.AsRust.{rust_driver, identification, BeginsIdentifying, configured_then_refused, refused_by, refused_heeding, but_large, AsRust}
 use Rattle.nand_runs.specs.Program.{Left, rust_program, large_page, refused-page}
 use Rattle.nand_runs.specs.Rust.{MAX-VERIFY-PAGE-SIZE, read-configuration, reset-and-identify, ensure-configuration, unprotect, bring-up, constructed, with-config}
 use Rattle.nand_runs.specs.Run.{sort_of, nand_driver}
@@ -52,7 +52,7 @@ general = promises nand_driver parts Valid Built meaning supplies nand-is
 
 -- ---- one call
 
-stops-identified : refused-page ≡ identified_then_refused
+stops-identified : refused-page ≡ identification >>= (λ id. fail FlashError.NotSupported)
 unfolding refused-page ◌>>=◌ ◌>>◌
 stops-identified = refl
 
@@ -72,8 +72,7 @@ module _ (s : Setup) (call : Call) (l : Lent) (es : List (Event Call)) where
   large-heeding : large_page call ≡ true → rust_heeding nand_driver s call l es ≡ refused_heeding l es
   large-heeding big =
       ap (λ x. heeding (takes_at nand_driver call l) (program_on_bus l.given (pick x refused-page own)) es l.buffer) big
-      ∙ ap (λ p. heeding (takes_at nand_driver call l) (program_on_bus l.given p) es l.buffer) stops-identified
-      ∙ ap (λ k. heeding k (program_on_bus l.given identified_then_refused) es l.buffer) (large-takes call (length l.buffer) (length l.given) big)
+      ∙ ap (λ k. heeding k (program_on_bus l.given refused-page) es l.buffer) (large-takes call (length l.buffer) (length l.given) big)
 
   small-call : large_page call ≡ false → rust_call nand_driver s call l es ≡ rust_call rust_driver s call l es
   small-call small = ap (λ x. performed (program_on_bus l.given (pick x refused-page own)) (replies_of es) l.buffer) small
@@ -81,7 +80,6 @@ module _ (s : Setup) (call : Call) (l : Lent) (es : List (Event Call)) where
   large-call : large_page call ≡ true → rust_call nand_driver s call l es ≡ refused_by l es
   large-call big =
       ap (λ x. performed (program_on_bus l.given (pick x refused-page own)) (replies_of es) l.buffer) big
-      ∙ ap (λ p. performed (program_on_bus l.given p) (replies_of es) l.buffer) stops-identified
 
 -- ---- the Rust's construction with a page that is too large
 
@@ -185,8 +183,8 @@ module _ (given : List ℕ) where
   rust-none s (Call.WithConfig config) b d big = rw (goes-on config big s b d) (large-none config)
   rust-none s c b d big = absurd (true≢false (sym big))
 
-refused-none : (l : Lent) → LeavesNone (program_on_bus l.given identified_then_refused)
-refused-none l = none-bind l.given identification _ (λ id. none-fail l.given FlashError.NotSupported)
+refused-none : (l : Lent) → LeavesNone (program_on_bus l.given refused-page)
+refused-none l = rw stops-identified (none-bind l.given identification _ (λ id. none-fail l.given FlashError.NotSupported))
 
 large-gives : (flash : SpiNandFlash) (call : Call) (l : Lent) (es : List (Event Call)) → Steady nand_driver flash call l es → large_page call ≡ true →
     gives_of (told (accepted (steps_at nand_driver flash call l es))) ≡ gives_of (refused_heeding l es)

@@ -21,7 +21,7 @@ use Rattle.spi_nand.specs.declared.config.SpiNandConfig.{SpiNandConfig}
 use Rattle.spi_nand.specs.declared.call.Call.{Call}
 use Rattle.spi_nand.specs.declared.setup.Setup.{Setup}
 use Rattle.nand_driver.specs.Settle.{SpiNandFlash}
-use Rattle.nand_runs.specs.Program.{Left, rust_program, large_page}
+use Rattle.nand_runs.specs.Program.{Left, rust_program, large_page, refused-page}
 use Rattle.nand_runs.specs.Rust.{read-configuration, reset-and-identify, ensure-configuration, unprotect}
 use Rattle.nand_runs.specs.Run.{nand_driver}
 
@@ -51,19 +51,14 @@ configured_then_refused config = do
 
 -- ---- the port
 
--- where the Rust goes on to configure the part, it fails with 11 at once
-abbrev pub identified_then_refused : Prog Left
-identified_then_refused = do
-  id ← identification
-  fail FlashError.NotSupported
-
--- what it does on the replies of a call: each action with its bytes, then its result, and the buffer after each
+-- where the Rust goes on to configure the part, it fails with 11 at once: what it does on the replies of a call, each action with its bytes,
+-- then its result, and the buffer after each
 abbrev pub refused_by : Lent → List (Event Call) → List (Did Left)
-refused_by l es = performed (program_on_bus l.given identified_then_refused) (replies_of es) l.buffer
+refused_by l es = performed (program_on_bus l.given refused-page) (replies_of es) l.buffer
 
 -- and on any events, of which it passes over those that do not fit
 abbrev pub refused_heeding : Lent → List (Event Call) → List (Did Left)
-refused_heeding l es = heeding Takes.Nothing (program_on_bus l.given identified_then_refused) es l.buffer
+refused_heeding l es = heeding Takes.Nothing (program_on_bus l.given refused-page) es l.buffer
 
 -- what calls give, but for the constructions that are the difference
 abbrev pub but_large : {B : Type 0} → List (Turn Call) → List (List B) → List (List B)
