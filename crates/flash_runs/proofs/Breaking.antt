@@ -1,4 +1,4 @@
--- After a bus error select goes high and the call fails with its code, over every run of the machine.
+-- Behind a bus error select is raised and the call fails with its code, over every run of the machine.
 use Rattle.std.specs.Prelude.{Err}
 use Prim.Native.Nat.{ℕ}
 use mathlib.Core.Bool.{true}

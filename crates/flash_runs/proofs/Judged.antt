@@ -1,4 +1,4 @@
--- The calls and replies that are refused are just those of document 01.
+-- The calls and replies that are refused are just those that the specification names (docs/SPECIFICATION.md, "Refusals and numbers").
 use Prim.Native.Nat.{ℕ}
 use mathlib.Core.Bool.{Bool, true, false, true≢false}
 use mathlib.Core.Option.{Option, none, some}

@@ -45,7 +45,7 @@ module _ {O : Type 0} where
   abbrev pub delay_figures : (O → ℕ) → Figures O
   delay_figures waits = record { raise = 0; send = 0; moved = 0; given = 0; fill = 0; stamp = 0; waits = waits }
 
-  -- ---- only what is read for the caller goes into the caller's buffer
+  -- ---- what fills the caller's buffer is read for the caller
 
   abbrev pub read_figures : Figures O
   read_figures = record { raise = 0; send = 0; moved = 0; given = 0; fill = 1; stamp = 0; waits = λ operation. 0 }

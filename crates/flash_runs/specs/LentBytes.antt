@@ -24,10 +24,10 @@ module _ {F C S A : Type 0} (driver : Driver F C S A) where
     pub begins_leave : (flash : F) (call : C) (l : Lent) → (driver.system.begin flash call l).left ≡ l
     -- ---- the buffer
 
-    -- a call that reads into the caller's buffer changes the places of the bytes read so far alone
+    -- a call that reads into the caller's buffer changes no place but those of bytes read by then
     pub changes : (flash : F) (call : C) (l : Lent) (es : List (Event C)) → takes_buffer (takes_at driver call l) ≡ true →
         ChangesRead driver.reads false 0 (run_at driver flash call l es)
-    -- where the buffer is undisturbed it holds those bytes at their places, and its old bytes behind them
+    -- where the buffer is undisturbed it has those bytes at its start, and behind them what it had before
     pub holds : (flash : F) (call : C) (l : Lent) (es : List (Event C)) → takes_buffer (takes_at driver call l) ≡ true →
         Undisturbed l.buffer (run_at driver flash call l es) → HoldsRead driver.reads false l.buffer [] (run_at driver flash call l es)
     -- no other call changes the buffer
@@ -53,5 +53,5 @@ module _ {F C S A : Type 0} (driver : Driver F C S A) where
         PutsOver all closed all (run_at driver flash call l es)
     -- every call ends with select high, whatever it was before
     pub ends_high : (flash : F) (call : C) (l : Lent) (es : List (Event C)) → EndsHigh false (run_at driver flash call l es)
-    -- after a bus error select goes high, and the call fails with the error's code
+    -- behind a bus error select is raised, and the call fails with the error's code
     pub stops_on_error : (flash : F) (call : C) (l : Lent) (es : List (Event C)) → StopsOnError none (run_at driver flash call l es)

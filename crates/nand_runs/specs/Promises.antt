@@ -54,9 +54,9 @@ module _ {F : Type 0} (driver : Driver F Call Setup Answer) where
         EndsAsking flash (Call.Read offset) l (10 * pages_touched (driver.setup flash).geometry offset (length l.buffer))
     pub read_most : (flash : F) (offset : ℕ) (l : Lent) → AllBytes l.given → Begun driver flash (Call.Read offset) l →
         EndsAsking flash (Call.Read offset) l (400000 * pages_touched (driver.setup flash).geometry offset (length l.buffer))
-    -- in the caller's buffer only the places of the bytes read so far change, whatever the replies
+    -- no step changes a place of the caller's buffer that is not one of a byte read by then, whatever is replied
     pub changes : (flash : F) (offset : ℕ) (l : Lent) (es : List (Event Call)) → ChangesRead reads_cache false 0 (run_of_read flash offset l es)
-    -- where nobody else writes, the buffer holds those bytes at their places, and its old bytes elsewhere
+    -- where nobody else writes into it, the buffer has those bytes at its start, and behind them what it had before
     pub holds : (flash : F) (offset : ℕ) (l : Lent) (es : List (Event Call)) → Undisturbed l.buffer (run_of_read flash offset l es) →
         HoldsRead reads_cache false l.buffer [] (run_of_read flash offset l es)
 

@@ -79,7 +79,7 @@ module _ {F C A : Type 0} (system : System F C A) where
   state_after f (reply r bytes l ∷ es) = state_after (system.answer f r bytes l).flash es
   state_after f (call c l ∷ es) = pick (system.running f) (state_after (system.begin f c l).flash es) f
 
--- the microseconds in the delays given out, each counted once
+-- what the delays given out come to in microseconds, each counted once
 abbrev pub delay_given : {A : Type 0} → Given A → ℕ
 delay_given (act shown) = delay_of shown
 delay_given (ended a) = 0
