@@ -1,4 +1,4 @@
--- The two drivers' calls and steps, side by side (document 01, "Actions and replies").
+-- The two drivers' calls and steps, side by side (docs/SPECIFICATION.md, "Actions and replies").
 use Rattle.std.specs.Prelude.{ℕ, List}
 use Rattle.qspi.specs.declared.bus.Reply.{Reply}
 use Rattle.spi_flash.specs.declared.error.FlashError.{FlashError}

@@ -11,7 +11,7 @@ use Rattle.flash_calls.specs.Answer.{answer_values}
 use Rattle.flash_calls.specs.declared.given.Answer.{Answer}
 use Rattle.machine.specs.declared.state.Given.{Given}
 
--- "E n, document 01's number: 0 is success", then "V and the values of the answer"
+-- E and the number of the end, 0 for success; then V and what the answer has
 unfoldable pub ended_lines : Answer → List ℕ
 ended_lines answer = end_line 0 ++ values_line (answer_values answer)
 

@@ -15,7 +15,7 @@ quad_read_line command tclqv margin n = (81 ∷ hex_of command) ++ 32 ∷ 58 ∷
 unfoldable pub quad_write_line : List ℕ → List ℕ → List ℕ
 quad_write_line command payload = (80 ∷ hex_of command) ++ 32 ∷ 58 ∷ [] ++ hex_of payload ++ 10 ∷ []
 
--- "one line an action: L low, H high, W and the bytes in hexadecimal, R and n in decimal"; and D with a delay's microseconds
+-- the line of an action: select L or H, W with its bytes in hexadecimal, R with its count, D with its microseconds
 unfoldable pub line_of : Shown → List ℕ
 line_of low = 76 ∷ 10 ∷ []
 line_of high = 72 ∷ 10 ∷ []

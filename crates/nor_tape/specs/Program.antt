@@ -13,7 +13,7 @@ use Rattle.machine.specs.declared.state.Given.{Given}
 use Rattle.tape.specs.Replay.{replay_at}
 use Rattle.nor_tape.specs.Replay.{Replay, begun_over}
 
--- "takes a tape of at most 65,536 bytes on standard input (a longer one is 15), builds a NOR with SpiNorConfig::single()"
+-- a tape on standard input, 15 where it is too long, and a NOR constructed on one line (docs/SPECIFICATION.md, "The reply tape")
 unfoldable pub begun_input : List ℕ → ℕ → Replay
 begun_input input s =
     pick (leb (length input) 65536) (begun_over not_built Call.New input s s s) (replay_at (refused_of not_built FlashError.MalformedTape) 0)
