@@ -21,7 +21,7 @@ pub mod Delivered
 pub mod Breaking
 pub mod Scratch
 pub mod ActionsGiven
-pub mod Bills
+pub mod WithinBound
 pub mod Lent
 pub mod Judged
 pub mod Heeding

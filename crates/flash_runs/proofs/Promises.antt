@@ -9,7 +9,7 @@ use Rattle.flash_runs.proofs.Supplies.{Is, Supplies, Known}
 use Rattle.flash_runs.proofs.Refusals.{refusals-keep}
 use Rattle.flash_runs.proofs.Judged.{told-by-history, refuses-just}
 use Rattle.flash_runs.proofs.SameAsRust.{same_as_rust}
-use Rattle.flash_runs.proofs.Bills.{within_bound}
+use Rattle.flash_runs.proofs.WithinBound.{within_bound}
 use Rattle.flash_runs.proofs.Lent.{lent_bytes}
 
 pub promises : {F C S P A : Type 0} (driver : Driver F C S A) (parts : Parts S P A C) (Valid : Place S P → Type 0) (Built : P → Type 0) (meaning : Place S P → ℕ → Prog (Left S A)) →

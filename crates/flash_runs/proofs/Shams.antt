@@ -23,7 +23,7 @@ use Rattle.flash_runs.specs.Driver.{Left, constructs, works_on, Driver, sort_at,
 use Rattle.flash_runs.specs.Promises.{Promises}
 use Rattle.flash_runs.specs.Refusals.{out_then, is_out, out_after, ToldByHistory}
 use Rattle.flash_runs.specs.SameAsRust.{Regular, rust_call, left_by, SameAsRust}
-use Rattle.flash_runs.specs.Shams.{Asks, Subject, in_place, billing, ending, Refuses, Succeeds, ForTheBus, ShamsFail}
+use Rattle.flash_runs.specs.Shams.{Asks, Subject, in_place, bounding, ending, Refuses, Succeeds, ForTheBus, ShamsFail}
 use Rattle.flash_runs.specs.WithinBound.{GivesAction, Begun, ComesTo, EndsWell, WithinBound}
 use Rattle.flash_runs.specs.Watch.{succeeded_then, Succeeded}
 
@@ -291,9 +291,9 @@ module _ {F C S A : Type 0} (driver : Driver F C S A) (G : Type 0) (call : C) (l
         behind p.history well.left well.replies ls m.given refl begun
         (well.ends ls (again-length well.replies l) (again-lends well.replies (takes_at held call l) l c.ready))
 
-  -- ---- bills
+  -- ---- bounds
 
-  -- what some replies come to is within every bill that is kept
+  -- what some replies come to is within every bound that is kept
   within : (flash : F) (call : C) (l : Lent) (b : ℕ) → ready_for (takes_at driver call l) l ≡ true → ComesTo driver flash call l b → (bound : ℕ) →
       ((es : List (Event C)) → delay_asked (run_at driver flash call l es) ≤ bound) → b ≤ bound
   within flash call l b ready to bound kept =
@@ -301,9 +301,9 @@ module _ {F C S A : Type 0} (driver : Driver F C S A) (G : Type 0) (call : C) (l
       let asked = to.asks ls (again-length to.replies l) (again-lends to.replies (takes_at driver call l) l ready) in
       omega (arith, asked, kept (answering to.replies ls))
 
-  -- a run does not look at the bills
-  other-comes : (bill : S → C → ℕ → ℕ → ℕ) (flash : F) (call : C) (l : Lent) {b : ℕ} → ComesTo (billing driver bill) flash call l b → ComesTo driver flash call l b
-  other-comes bill flash call l to = record { replies = to.replies; real = to.real; fits = to.fits; asks = to.asks }
+  -- a run does not look at the bounds
+  other-comes : (delays : S → C → ℕ → ℕ → ℕ) (flash : F) (call : C) (l : Lent) {b : ℕ} → ComesTo (bounding driver delays) flash call l b → ComesTo driver flash call l b
+  other-comes delays flash call l to = record { replies = to.replies; real = to.real; fits = to.fits; asks = to.asks }
 
   -- ---- good ends
 
@@ -348,9 +348,9 @@ module _ {F C S A : Type 0} (driver : Driver F C S A) (G : Type 0) (call : C) (l
     running_on = λ sham h p.
         let r = ends sham p in
         true≢false (sym (h sham.fresh call l r.0 (begins sham p.history p.same_as_rust)) ∙ r.1);
-    bills = λ bill other flash call l bytes ready begun.
-        let most = within flash call l (bound_at (billing driver bill) flash call l) ready (other-comes bill flash call l (other.reached flash call l bytes begun)) (bound_at driver flash call l) (kept.bounded flash call l) in
-        let least = within flash call l (bound_at driver flash call l) ready (kept.reached flash call l bytes begun) (bound_at (billing driver bill) flash call l) (other.bounded flash call l) in
+    other_bounds = λ delays other flash call l bytes ready begun.
+        let most = within flash call l (bound_at (bounding driver delays) flash call l) ready (other-comes delays flash call l (other.reached flash call l bytes begun)) (bound_at driver flash call l) (kept.bounded flash call l) in
+        let least = within flash call l (bound_at driver flash call l) ready (kept.reached flash call l bytes begun) (bound_at (bounding driver delays) flash call l) (other.bounded flash call l) in
         omega (arith, most, least);
     endings = λ can other flash call l bytes ready begun.
         same-ends flash call l (ends_at (ending driver can) flash call l) (ends_at driver flash call l)

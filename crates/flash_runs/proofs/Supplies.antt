@@ -136,7 +136,7 @@ module _ {F C S P A : Type 0} (driver : Driver F C S A) (parts : Parts S P A C) 
     pub alike : (s : S) (c : C) (l m : Lent) → SameTaken (takes_at driver c l) l m →
         parts.opening s c (length l.buffer) (length l.given) ≡ parts.opening s c (length m.buffer) (length m.given)
     pub stays : (s : S) (phase : P) (o : Outcome) → Built phase → Stays Built s (parts.next s phase o)
-    -- what the programs come to: the bill and that it is reached, the actions, a good end
+    -- what the programs come to: the delay bound and that it is reached, the actions, a good end
     pub bounded : (s : S) (c : C) (b d : ℕ) → Bounds driver s c b d → Bounded delays (driver.delay_bound s c b d) (driver.program s c b d)
     pub acts : (s : S) (c : C) (b d : ℕ) → Bounds driver s c b d → Bounded actions (driver.most_actions s c b d) (driver.program s c b d)
     pub reached : (s : S) (c : C) (b : ℕ) (given : List ℕ) → Bounds driver s c b (length given) → AllBytes given → Asks (driver.program s c b (length given)) →

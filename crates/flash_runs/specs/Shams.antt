@@ -49,8 +49,8 @@ module _ {F C S A : Type 0} (driver : Driver F C S A) where
       }
 
   -- the driver, but for its bounds on delays
-  abbrev pub billing : (S → C → ℕ → ℕ → ℕ) → Driver F C S A
-  billing bound = record driver { delay_bound = bound }
+  abbrev pub bounding : (S → C → ℕ → ℕ → ℕ) → Driver F C S A
+  bounding bound = record driver { delay_bound = bound }
 
   -- but for which calls it says can end well
   abbrev pub ending : (S → C → ℕ → ℕ → Bool) → Driver F C S A
@@ -116,8 +116,8 @@ pub record ShamsFail {F C S A : Type 0} (driver : Driver F C S A) (G : Type 0) :
       (Begun (in_place driver sham) flash call l → ⊥) → SameAsRust (in_place driver sham) → ⊥
   pub running_on : (sham : Subject G C S A) → RunsForEver (in_place driver sham) → Promises (in_place driver sham) → ⊥
   -- a bound that is no sum of the delays given out: no other is kept and reached
-  pub bills : (bound : S → C → ℕ → ℕ → ℕ) → WithinBound (billing driver bound) → (flash : F) (call : C) (l : Lent) → AllBytes l.given →
-      ready_for (takes_at driver call l) l ≡ true → Begun driver flash call l → bound_at (billing driver bound) flash call l ≡ bound_at driver flash call l
+  pub other_bounds : (bound : S → C → ℕ → ℕ → ℕ) → WithinBound (bounding driver bound) → (flash : F) (call : C) (l : Lent) → AllBytes l.given →
+      ready_for (takes_at driver call l) l ≡ true → Begun driver flash call l → bound_at (bounding driver bound) flash call l ≡ bound_at driver flash call l
   -- a good end that is promised where there is none, or denied where there is one
   pub endings : (can : S → C → ℕ → ℕ → Bool) → WithinBound (ending driver can) → (flash : F) (call : C) (l : Lent) → AllBytes l.given →
       ready_for (takes_at driver call l) l ≡ true → Begun driver flash call l → ends_at (ending driver can) flash call l ≡ ends_at driver flash call l

@@ -26,10 +26,10 @@ unfoldable pub actions_given : {C A : Type 0} → List (Entry C A) → ℕ
 actions_given [] = 0
 actions_given (x ∷ xs) = action_given x.given + actions_given xs
 
--- 0 unless an action is given
-abbrev pub bill_of : {A : Type 0} → Given A → (bound : ℕ) → ℕ
-bill_of (act shown) bound = bound
-bill_of _ bound = 0
+-- the bound where an action is given, and 0 elsewhere
+abbrev pub begun_bound : {A : Type 0} → Given A → (bound : ℕ) → ℕ
+begun_bound (act shown) bound = bound
+begun_bound _ bound = 0
 
 module _ {F C S A : Type 0} (driver : Driver F C S A) where
   abbrev pub Begun : F → C → Lent → Type 0
@@ -57,15 +57,15 @@ module _ {F C S A : Type 0} (driver : Driver F C S A) where
         left_by (rust_call driver (driver.setup flash) call l (answering replies ls)) ≡ some left
 
   -- what the call may ask: nothing, where it is turned away or ends without an action
-  abbrev pub bill_at : F → C → Lent → ℕ
-  bill_at flash call l = bill_of (driver.system.begin flash call l).given (bound_at driver flash call l)
+  abbrev pub begun_bound_at : F → C → Lent → ℕ
+  begun_bound_at flash call l = begun_bound (driver.system.begin flash call l).given (bound_at driver flash call l)
 
   pub record WithinBound : Type 0 where
     -- a run asks no more than the bound of its call, on any state
     pub bounded : (flash : F) (call : C) (l : Lent) (es : List (Event C)) → delay_asked (run_at driver flash call l es) ≤ bound_at driver flash call l
-    -- nor do the steps of a call on a driver at rest ask more than its bill
-    pub billed : (flash : F) (call : C) (l : Lent) (es : List (Event C)) → driver.system.running flash ≡ false →
-        delay_asked (steps_at driver flash call l es) ≤ bill_at flash call l
+    -- nor do the steps of a call on a driver at rest ask more than that
+    pub asks_within : (flash : F) (call : C) (l : Lent) (es : List (Event C)) → driver.system.running flash ≡ false →
+        delay_asked (steps_at driver flash call l es) ≤ begun_bound_at flash call l
     -- so that one without a run asks nothing
     pub without_run : (flash : F) (call : C) (l : Lent) (es : List (Event C)) → driver.system.running flash ≡ false → (Begun flash call l → ⊥) →
         delay_asked (steps_at driver flash call l es) ≡ 0

@@ -1,4 +1,4 @@
--- The bills of the calls' programs, their actions and their good ends.
+-- The delay bounds of the calls' programs, their actions and their good ends.
 -- Assumes nothing.
 use Rattle.nand_runs.specs.ProgramBounds.{ProgramBounds}
 use lib.ListN.{length}

@@ -1,4 +1,4 @@
--- Every call that begins comes to its bill on some replies, and to a good end but where it cannot.
+-- Every call that begins comes to its bound on some replies, and to a good end but where it cannot.
 use Prim.Native.Nat.{ℕ, zero, suc, ◌≤◌}
 use native.Mathlib.Omega.{arith}
 use mathlib.Core.Bool.{true, false, not, true≢false}
@@ -35,7 +35,7 @@ module _ (flash : Setup) (bounds : in_bounds flash.geometry ≡ true) where
       by zero h = absurd (h refl)
       by (suc n) h = omega arith
 
-  -- every call that begins comes to its bill at a good end, but those that cannot end well
+  -- every call that begins comes to its bound at a good end, but those that cannot end well
   pub ends : (call : Call) (b : ℕ) (given : List ℕ) → AllBytes given → Begins flash call b (length given) → can_end flash call ≡ true →
       (left : Left) × Ends given delays (delay_bound flash call b) left (coded flash call b (length given))
   unfolding coded_rust rust_program delay_bound
@@ -87,7 +87,7 @@ module _ (flash : Setup) (bounds : in_bounds flash.geometry ≡ true) where
   never (Call.MarkBadBlock block) b d c = never-left _ (never-mark block (no-spare c))
   never _ b d c = absurd (true≢false c)
 
-  -- a call that cannot end well comes to its bill where it fails
+  -- a call that cannot end well comes to its bound where it fails
   stopped : (call : Call) (b : ℕ) (given : List ℕ) → Begins flash call b (length given) → can_end flash call ≡ false →
       Reaches given delays (delay_bound flash call b) (coded flash call b (length given))
   unfolding coded_rust rust_program delay_bound ◌>>◌

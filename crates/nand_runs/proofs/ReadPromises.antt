@@ -14,7 +14,7 @@ use Rattle.flash_runs.specs.Driver.{leaving, takes_at, program_at, run_at}
 use Rattle.flash_runs.specs.Reading.{bytes_read}
 use Rattle.flash_runs.specs.Watch.{watched, Succeeded}
 use Rattle.flash_runs.specs.WithinBound.{Begun}
-use Rattle.flash_runs.proofs.Bills.{within_bound}
+use Rattle.flash_runs.proofs.WithinBound.{within_bound}
 use Rattle.flash_runs.proofs.EndsAsking.{ends-asking}
 use Rattle.flash_runs.proofs.General.{decide_next}
 use Rattle.flash_runs.proofs.Lent.{lent_bytes}
@@ -104,7 +104,7 @@ module _ (flash : SpiNandFlash) (offset : ℕ) (l : Lent) (begun : Begun nand_dr
 pub reads-as-asked : ReadsAsAsked nand_driver
 unfolding sort_of
 reads-as-asked = record {
-  bills = within_bound known;
+  within_bound = within_bound known;
   read = λ flash offset l es free. steps-seen flash offset l es free (seen flash offset l es);
   read_runs = seen;
   read_ends = λ flash offset l small begun. (within_bound known).ends_well flash (Call.Read offset) l small begun refl;

@@ -1,4 +1,4 @@
--- What the program of each call comes to: its bill is an upper bound and is reached, its actions are bounded, and it can end well
+-- What the program of each call comes to: its delay bound is an upper bound and is reached, its actions are bounded, and it can end well
 -- (docs/SPECIFICATION.md, "Waits and bounds").
 use Rattle.std.specs.Prelude.{ℕ, Bool, true, false, not, ◌≡◌, List, ltb, eqb, length}
 use Rattle.qspi.specs.Bytes.{AllBytes}
@@ -84,7 +84,7 @@ can_end flash (Call.MarkBadBlock block) = not (eqb flash.geometry.oob_size 0)
 
 -- of a driver whose geometry is within the bounds, whatever the replies; and on the caller's data, with replies that fit
 pub record ProgramBounds : Type 0 where
-  -- no path asks more than the call's bill, and some path asks exactly that
+  -- no path asks more than the call's bound, and some path asks exactly that
   pub bounded : (flash : Setup) → in_bounds flash.geometry ≡ true → (call : Call) (b d : ℕ) →
       Bounded delays (delay_bound flash call b) (program_of flash call b d)
   pub reached : (flash : Setup) → in_bounds flash.geometry ≡ true → (call : Call) (b : ℕ) (given : List ℕ) → AllBytes given →

@@ -41,7 +41,7 @@ module _ {F : Type 0} (driver : Driver F Call Setup Answer) where
   -- docs/SPECIFICATION.md, "Waits and bounds" and "Reads on the bus"
   pub record ReadsAsAsked : Type 0 where
     -- no call asks more than its bound, some replies bring it there, and every call ends
-    pub bills : WithinBound driver
+    pub within_bound : WithinBound driver
     -- what is seen of a read: over its steps on a driver at rest, an end at once among them, so that no success comes without its traffic;
     -- and over its run on any driver
     pub read : (flash : F) (offset : ℕ) (l : Lent) (es : List (Event Call)) → driver.system.running flash ≡ false →

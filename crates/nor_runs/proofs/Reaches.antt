@@ -1,4 +1,4 @@
--- Replies on which each call's program comes to its bill, and to a good end.
+-- Replies on which each call's program comes to its bound, and to a good end.
 use Rattle.spi_nor.specs.declared.config.NorQuadConfig.{NorQuadConfig}
 use Rattle.spi_nor.specs.declared.config.NorDeviceInfo.{NorDeviceInfo}
 use Prim.Native.Nat.{ℕ, zero, suc, ◌+◌, ◌-◌, ◌*◌, ◌/◌, ◌%◌, ◌≤◌, ◌<◌}
@@ -266,7 +266,7 @@ unfolding coded
 never flash (Call.WithConfig config) b d c = never-left _ (never-with-config config c)
 never flash _ b d c = absurd (true≢false c)
 
--- every call that begins comes to its bill at a good end, but for a construction with too large a page
+-- every call that begins comes to its bound at a good end, but for a construction with too large a page
 pub ends : (flash : Setup) (call : Call) (b : ℕ) (given : List ℕ) → Bounds nor_driver flash call b (length given) → AllBytes given → Asks (coded flash call b (length given)) →
     can_end (sort_of call b (length given)) ≡ true → (left : Left) × Ends given delays (delay_bound flash call (length given)) left (coded flash call b (length given))
 unfolding coded program_of delay_bound

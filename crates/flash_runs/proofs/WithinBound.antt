@@ -1,4 +1,4 @@
--- The bill, the end and the good end of every call, from the program that it follows.
+-- The delay bound, the end and the good end of every call, from the program that it follows.
 use Prim.Native.Nat.{ℕ, ◌≤◌}
 use native.Mathlib.Omega.{arith}
 use mathlib.Core.Bool.{true, false}
@@ -23,7 +23,7 @@ use Rattle.spi_flash.proofs.Runs.{heard-view, first-delay, trail-asks, run-bound
 use Rattle.spi_flash.proofs.Reach.{reached}
 use Rattle.flash_runs.specs.Driver.{Left, Driver, takes_at, program_at, bound_at, most_actions_at, ends_at, run_at, steps_at}
 use Rattle.flash_runs.specs.SameAsRust.{left_by}
-use Rattle.flash_runs.specs.WithinBound.{GivesAction, actions_given, bill_of, bill_at, ComesTo, EndsWell, WithinBound}
+use Rattle.flash_runs.specs.WithinBound.{GivesAction, actions_given, begun_bound, begun_bound_at, ComesTo, EndsWell, WithinBound}
 use Rattle.flash_runs.specs.Watch.{Succeeded}
 use Rattle.flash_runs.proofs.General.{Parts, Place, decide_next}
 use Rattle.flash_runs.proofs.ActionsGiven.{run-gives}
@@ -128,10 +128,10 @@ module _ {F C S A : Type 0} {driver : Driver F C S A} (known : Known driver) whe
     unfolding delay_asked Fitting first_of
     comes-to small o =
         let takes = takes_at driver c l in
-        let bill = bound_at driver flash c l in
-        let path : Reaches l.given delays bill (ask o.first (meaning o.at)) =
-        subst (Reaches l.given delays bill) o.program (supplies.reached s c b l.given o.bounds small (asks o)) in
-        let r = reached C (decide_next parts) takes l.given known.Valid meaning supplies.simulates o.first o.at (λ past end. asked delays past end ≡ bill) o.valid path.reach in
+        let most = bound_at driver flash c l in
+        let path : Reaches l.given delays most (ask o.first (meaning o.at)) =
+        subst (Reaches l.given delays most) o.program (supplies.reached s c b l.given o.bounds small (asks o)) in
+        let r = reached C (decide_next parts) takes l.given known.Valid meaning supplies.simulates o.first o.at (λ past end. asked delays past end ≡ most) o.valid path.reach in
         record {
           replies = r.0;
           real = r.1;
@@ -205,27 +205,27 @@ module _ {F C S A : Type 0} {driver : Driver F C S A} (known : Known driver) whe
   -- ---- over the steps on a driver at rest
 
   module _ (flash : F) (c : C) (l : Lent) (es : List (Event C)) (free : driver.system.running flash ≡ false) where
-    abbrev Billed : Run.Given (Left S A) → Type 0
-    Billed g = delay_asked (steps_at driver flash c l es) ≤ bill_of g (bound_at driver flash c l)
+    abbrev AsksWithin : Run.Given (Left S A) → Type 0
+    AsksWithin g = delay_asked (steps_at driver flash c l es) ≤ begun_bound g (bound_at driver flash c l)
 
     silent : (g : Run.Given (Left S A)) → (driver.system.begin flash c l).given ≡ g → (GivesAction g → ⊥) → delay_asked (steps_at driver flash c l es) ≡ 0
     silent g is quiet = quiet-asked (refuses-just known) (refusals-keep driver parts known.is) flash c l free (λ h. quiet (subst GivesAction is h)) es
 
-    billed-as : (g : Run.Given (Left S A)) → (driver.system.begin flash c l).given ≡ g → Billed g
-    billed-as (Run.act shown) is =
+    asks-within-as : (g : Run.Given (Left S A)) → (driver.system.begin flash c l).given ≡ g → AsksWithin g
+    asks-within-as (Run.act shown) is =
         let same = ap delay_asked (acts-alike driver.system flash c l es shown is) in
         omega (arith, same, never-passed flash c l es)
-    billed-as (Run.ended a) is = omega (arith, silent (Run.ended a) is (λ h. h))
-    billed-as (Run.failed e) is = omega (arith, silent (Run.failed e) is (λ h. h))
-    billed-as (Run.refused e) is = omega (arith, silent (Run.refused e) is (λ h. h))
+    asks-within-as (Run.ended a) is = omega (arith, silent (Run.ended a) is (λ h. h))
+    asks-within-as (Run.failed e) is = omega (arith, silent (Run.failed e) is (λ h. h))
+    asks-within-as (Run.refused e) is = omega (arith, silent (Run.refused e) is (λ h. h))
 
-    billed : delay_asked (steps_at driver flash c l es) ≤ bill_at driver flash c l
-    billed = billed-as (driver.system.begin flash c l).given refl
+    asks_within : delay_asked (steps_at driver flash c l es) ≤ begun_bound_at driver flash c l
+    asks_within = asks-within-as (driver.system.begin flash c l).given refl
 
   pub within_bound : WithinBound driver
   within_bound = record {
     bounded = never-passed;
-    billed = billed;
+    asks_within = asks_within;
     without_run = λ flash c l es free silent. quiet-asked (refuses-just known) (refusals-keep driver parts known.is) flash c l free silent es;
     reached = λ flash c l small h. comes-to flash c l small (begun-opens known flash c l h);
     actions = λ flash c l es. ⊎_elim (λ n. quiet-gives flash c l n es) (λ o. gives-run flash c l o es) (view known flash c l);
