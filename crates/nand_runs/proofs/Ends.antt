@@ -32,7 +32,7 @@ use Rattle.nand_runs.specs.Rust.{MAX-VERIFY-PAGE-SIZE, read-register, read-statu
 use Rattle.nand_runs.proofs.AsCoded.{page-read, read-cache, load-program-data, program-execute, read-page, write-page, erase-block, reading, read, is-bad-block, filling, mark-bad-block, resolved, constructed, with-config}
 use Rattle.nand_runs.specs.Program.{page_taken, refused-page}
 use Rattle.nand_runs.specs.Bound.{pages_touched, fillers}
-use Rattle.nand_runs.specs.ProgramBounds.{PageFits, BlockFits, WholePage}
+use Rattle.nand_runs.proofs.Begins.{PageFits, BlockFits, WholePage}
 use Rattle.nand_runs.proofs.Pages.{some-page, in-cache, no-marker, page-fits, first-page-fits, in-range, place-of, chunk-within, page-turns, pages-first, pages-done, filler-within, filler-turns, fillers-enough}
 use Rattle.nand_runs.proofs.ReadLoop.{read-piece, reading-pieces}
 use Rattle.nand_runs.proofs.FillLoop.{filling-loop}

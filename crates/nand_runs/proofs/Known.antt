@@ -11,11 +11,10 @@ use Rattle.flash_runs.proofs.Supplies.{Asks, Bounds, Supplies, Known}
 use Rattle.spi_nand.specs.declared.call.Call.{Call}
 use Rattle.spi_nand.specs.declared.phase.Phase.{Phase}
 use Rattle.spi_nand.specs.declared.setup.Setup.{Setup}
-use Rattle.nand_runs.specs.Bound.{delay_bound, weight_of, most_actions}
+use Rattle.nand_runs.specs.Bound.{delay_bound, weight_of, most_actions, can_end}
 use Rattle.nand_runs.specs.Program.{Left, rust_program, program_of}
-use Rattle.nand_runs.specs.ProgramBounds.{Begins, can_end}
 use Rattle.nand_runs.proofs.Agrees as Agrees
-use Rattle.nand_runs.proofs.Begins.{begins}
+use Rattle.nand_runs.proofs.Begins.{Begins, begins}
 use Rattle.nand_runs.proofs.ProgramBounds.{program-bounds}
 use Rattle.nand_runs.specs.Run.{sort_of, nand_driver}
 use Rattle.nand_runs.proofs.Places.{parts, Valid}

@@ -1,11 +1,36 @@
--- The delay bounds of the calls' programs, their actions and their good ends.
+-- What the program of each call comes to: its delay bound is an upper bound and is reached, its actions are bounded, and it can end well.
 -- Assumes nothing.
-use Rattle.nand_runs.specs.ProgramBounds.{ProgramBounds}
+use Prim.Native.Nat.{ℕ}
+use mathlib.Core.Bool.{true, false}
+use mathlib.Core.Path.{◌≡◌}
+use mathlib.Core.List.{List}
 use lib.ListN.{length}
-use Rattle.nand_runs.specs.Bound.{delay_bound}
+use Rattle.qspi.specs.Bytes.{AllBytes}
+use Rattle.spi_flash.specs.Path.{delays, actions, Bounded, Reaches, Ends, Never}
+use Rattle.spi_nand.specs.Config.{in_bounds}
+use Rattle.spi_nand.specs.declared.call.Call.{Call}
+use Rattle.spi_nand.specs.declared.setup.Setup.{Setup}
+use Rattle.nand_runs.specs.Bound.{delay_bound, most_actions, can_end}
+use Rattle.nand_runs.specs.Program.{Left, program_of}
 use Rattle.nand_runs.proofs.Agrees.{same}
+use Rattle.nand_runs.proofs.Begins.{Begins}
 use Rattle.nand_runs.proofs.Bounds.{bounded, acts}
 use Rattle.nand_runs.proofs.Reaches.{ends, never, reached}
+
+-- of a driver whose geometry is within the bounds, whatever the replies; and on the caller's data, with replies that fit
+pub record ProgramBounds : Type 0 where
+  -- no path asks more than the call's bound, and some path asks exactly that
+  pub bounded : (flash : Setup) → in_bounds flash.geometry ≡ true → (call : Call) (b d : ℕ) →
+      Bounded delays (delay_bound flash call b) (program_of flash call b d)
+  pub reached : (flash : Setup) → in_bounds flash.geometry ≡ true → (call : Call) (b : ℕ) (given : List ℕ) → AllBytes given →
+      Begins flash call b (length given) → Reaches given delays (delay_bound flash call b) (program_of flash call b (length given))
+  -- no path gives out more actions
+  pub acts : (flash : Setup) → in_bounds flash.geometry ≡ true → (call : Call) (b d : ℕ) →
+      Bounded actions (most_actions flash call b) (program_of flash call b d)
+  -- some path ends well, or none can
+  pub ends_well : (flash : Setup) → in_bounds flash.geometry ≡ true → (call : Call) (b : ℕ) (given : List ℕ) → AllBytes given →
+      Begins flash call b (length given) → can_end flash call ≡ true → (n : ℕ) × (left : Left) × Ends given delays n left (program_of flash call b (length given))
+  pub never_ends : (flash : Setup) → in_bounds flash.geometry ≡ true → (call : Call) (b d : ℕ) → can_end flash call ≡ false → Never (program_of flash call b d)
 
 pub program-bounds : ProgramBounds
 program-bounds = record {

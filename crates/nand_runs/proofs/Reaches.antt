@@ -22,8 +22,8 @@ use Rattle.spi_nand.specs.declared.setup.Setup.{Setup}
 use Rattle.nand_runs.proofs.AsCoded.{mark-bad-block, constructed}
 use Rattle.nand_runs.specs.Program.{Left, rust_program, refused-page}
 use Rattle.nand_runs.proofs.AsCoded.{coded_rust, coded}
-use Rattle.nand_runs.specs.Bound.{delay_bound}
-use Rattle.nand_runs.specs.ProgramBounds.{Begins, can_end}
+use Rattle.nand_runs.specs.Bound.{delay_bound, can_end}
+use Rattle.nand_runs.proofs.Begins.{Begins}
 use Rattle.nand_runs.proofs.Bounds.{never-is-bad}
 use Rattle.nand_runs.proofs.Ends.{ends-configuration, ends-disable-quad, ends-enable, ends-ensure, ends-erase, ends-execute, ends-identify, ends-is-bad, ends-jedec-id, ends-load-data, ends-mark, ends-page-read, ends-protection, ends_read, ends-read-cache, ends-read-page, ends-reset, ends-status, ends-unprotect, ends-with-config, ends-write-page, ends-write-register, found, reaches-is-bad, reaches-mark, reaches-refused-page}
 

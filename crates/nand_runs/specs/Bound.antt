@@ -1,5 +1,6 @@
--- The largest sum of delays that a call asks for, and a number of actions that it does not pass (docs/SPECIFICATION.md, "Waits and bounds").
-use Rattle.std.specs.Prelude.{ℕ, ◌+◌, ◌*◌, ◌-◌, ◌/◌, eqb}
+-- The largest sum of delays that a call asks for, a number of actions that it does not pass, and whether it can end well
+-- (docs/SPECIFICATION.md, "Waits and bounds").
+use Rattle.std.specs.Prelude.{ℕ, ◌+◌, ◌*◌, ◌-◌, ◌/◌, Bool, true, not, eqb}
 use Rattle.qspi.specs.Choice.{pick}
 use Rattle.flash_runs.specs.Weight.{Figures, action_figures}
 use Rattle.spi_nand.specs.WaitTable.{looks_of}
@@ -141,3 +142,13 @@ wait_actions operation = 1 + 5 * looks_of operation
 -- no call gives out more; not every call gives out so many
 abbrev pub most_actions : Setup → Call → ℕ → ℕ
 most_actions = weight_of (action_figures wait_actions)
+
+-- ---- good ends
+
+-- a construction whose page is too large is refused once the id is read, and without spare bytes there is no marker: every other call
+-- that begins can end well
+abbrev pub can_end : Setup → Call → Bool
+can_end flash (Call.WithConfig config) = page_taken config.geometry
+can_end flash (Call.IsBadBlock block) = not (eqb flash.geometry.oob_size 0)
+can_end flash (Call.MarkBadBlock block) = not (eqb flash.geometry.oob_size 0)
+can_end flash _ = true

@@ -10,7 +10,6 @@ pub mod Loops
 pub mod SameWords
 pub mod NothingWraps
 pub mod Bound
-pub mod ProgramBounds
 pub mod Observer
 pub mod ReadSeen
 pub mod Shams

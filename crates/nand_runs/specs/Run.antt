@@ -13,10 +13,9 @@ use Rattle.nand_driver.specs.Call.{fresh_setup, not_built, nand_calls, begin_of}
 use Rattle.nand_driver.specs.Settle.{nand_shape}
 use Rattle.nand_driver.specs.Step.{step_of, delivered_part}
 use Rattle.nand_driver.specs.Settle.{SpiNandFlash}
-use Rattle.nand_runs.specs.Bound.{delay_bound, most_actions}
+use Rattle.nand_runs.specs.Bound.{delay_bound, most_actions, can_end}
 use Rattle.nand_runs.specs.Observer.{reads_cache}
 use Rattle.nand_runs.specs.Program.{Left, program_of}
-use Rattle.nand_runs.specs.ProgramBounds.{can_end}
 
 -- the driver as it is stepped: `begin` and `step`
 abbrev pub nand : System SpiNandFlash Call Left
