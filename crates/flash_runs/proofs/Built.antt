@@ -23,7 +23,7 @@ use Rattle.spi_flash.specs.declared.loan.Takes.{Takes}
 use Rattle.qspi.proofs.Cases.{by_cases, keeps-pick}
 use Rattle.flash_runs.specs.Built.{after_turns, GivenInside, Admissible, BuiltInside}
 use Rattle.flash_runs.specs.Driver.{Left, Sort, constructs, tells, releases, uses, works_on, Driver, sort_at}
-use Rattle.flash_runs.specs.SameAsRust.{Turn, Ready, Steady, turn_after, EachTurn, heeding_turn, rust_session, driver_of}
+use Rattle.flash_runs.specs.SameAsRust.{Turn, Ready, Steady, turn_after, EachTurn, Alone, SteadyAlone, heeding_turn, rust_session, driver_of}
 use Rattle.flash_runs.proofs.General as General
 use Rattle.flash_runs.proofs.General.{Then, Opening, constructing, telling, releasing, working, Parts, Job, Running, idle, busy, is_busy, Flash, flash_of, Place, place, settled, opened, general, opened_as, begin_at, answer_at, proceeds}
 use Rattle.flash_runs.proofs.Supplies.{Stays, OpensAs, Known}
@@ -145,6 +145,12 @@ module _ {S P A C : Type 0} (parts : Parts S P A C) (in_bounds : S → Bool) (Bu
 
 -- ---- every driver
 
+pub steady-alone : {F C S A : Type 0} (driver : Driver F C S A) (turns : List (Turn C)) (flash : F) → EachTurn driver (λ flash x. Steady driver flash x.call x.lent x.events) flash turns →
+    EachTurn driver (Alone driver) flash turns → EachTurn driver (SteadyAlone driver) flash turns
+unfolding EachTurn
+steady-alone driver [] flash h k = tt
+steady-alone driver (x ∷ xs) flash h k = ((h.0, k.0), steady-alone driver xs (turn_after driver flash x) h.1 k.1)
+
 module _ {F C S A : Type 0} {driver : Driver F C S A} (known : Known driver) (page_of : S → ℕ) (most : ℕ) (Making : Place S known.P → Type 0) where
   abbrev Sound : S → Type 0
   Sound s = (driver.in_bounds s ≡ true) × (page_of s ≤ most)
@@ -212,4 +218,7 @@ module _ {F C S A : Type 0} {driver : Driver F C S A} (known : Known driver) (pa
       sessions = λ turns asked.
           (same_as_rust known).steady_sessions driver.fresh turns (steadies turns driver.fresh fresh-sounds asked)
           ∙ ap (λ before. map gives_of (rust_session driver (heeding_turn driver) before turns)) no-driver;
+      delivered_sessions = λ turns asked alone.
+          (same_as_rust known).delivered_sessions driver.fresh turns (steady-alone driver turns driver.fresh (steadies turns driver.fresh fresh-sounds asked) alone)
+          ∙ ap (λ before. rust_session driver (heeding_turn driver) before turns) no-driver;
     }

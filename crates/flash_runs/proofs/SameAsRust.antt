@@ -22,7 +22,7 @@ use Rattle.spi_flash.proofs.Performs.{Looks, looks_then, looking, looking-whole,
 use Rattle.spi_flash.proofs.Heeded.{Closed, closed-whole, fitting-told, Heeds, heeds}
 use Rattle.flash_runs.specs.Driver.{Left, Sort, constructs, tells, releases, uses, Driver, sort_at, takes_at, program_at, steps_at}
 use Rattle.flash_runs.specs.Heeding.{heeding}
-use Rattle.flash_runs.specs.SameAsRust.{LendsData, Ready, Steady, Regular, rust_call, rust_heeding, driver_of, left_then, left_by, driver_after, Turn, turn_steps, turn_after, EachTurn, turn_by_turn, SteadyAlone, Orderly, session, turn_gives, holding, rust_turn, heeding_turn, rust_session, SameAsRust}
+use Rattle.flash_runs.specs.SameAsRust.{LendsData, Ready, Steady, Regular, rust_call, rust_heeding, driver_of, left_then, left_by, driver_after, Turn, turn_steps, turn_after, EachTurn, turn_by_turn, SteadyAlone, Orderly, session, turn_does, turn_gives, holding, rust_turn, heeding_turn, rust_session, SameAsRust}
 use Rattle.flash_runs.proofs.General.{Opening, constructing, telling, releasing, working, Parts, Flash, decide_next}
 use Rattle.flash_runs.proofs.Supplies.{LooksAs, OpensAs, Known}
 use Rattle.flash_runs.proofs.Runs.{same-call}
@@ -262,14 +262,14 @@ module _ {F C S A : Type 0} {driver : Driver F C S A} (known : Known driver) whe
       (left known flash x.call x.lent x.events h.0.usable
       ∙ ap (driver_after (sort_at driver x.call x.lent) (driver_of driver flash)) (left-as (turn_steps driver flash x) _ head)))
 
-  turn-delivers : (flash : F) (x : Turn C) → SteadyAlone driver flash x → told (accepted (turn_steps driver flash x)) ≡ heeding_turn driver (driver_of driver flash) x
+  pub turn-delivers : (flash : F) (x : Turn C) → SteadyAlone driver flash x → turn_does driver flash x ≡ heeding_turn driver (driver_of driver flash) x
   turn-delivers flash x h =
       delivers flash x.call x.lent x.events h.0 h.1
       ∙ ap (λ p. heeding (takes_at driver x.call x.lent) (program_on_bus x.lent.given p) x.events x.lent.buffer)
       (held (sort_at driver x.call x.lent) flash x.call x.lent refl h.0.usable.ready)
 
   delivered-sessions : (flash : F) (turns : List (Turn C)) → EachTurn driver (SteadyAlone driver) flash turns →
-      turn_by_turn driver (λ flash x. told (accepted (turn_steps driver flash x))) flash turns ≡ rust_session driver (heeding_turn driver) (driver_of driver flash) turns
+      turn_by_turn driver (turn_does driver) flash turns ≡ rust_session driver (heeding_turn driver) (driver_of driver flash) turns
   unfolding EachTurn turn_by_turn rust_session
   delivered-sessions flash [] h = refl
   delivered-sessions flash (x ∷ xs) h =

@@ -6,7 +6,7 @@ use Rattle.spi_flash.specs.Loan.{Lent}
 use Rattle.spi_flash.specs.Run.{Event}
 use Rattle.spi_flash.specs.Seen.{gives_of}
 use Rattle.flash_runs.specs.Driver.{Sort, constructs, tells, releases, uses, Driver, sort_at, takes_at, steps_at}
-use Rattle.flash_runs.specs.SameAsRust.{Turn, LendsData, Ready, Steady, turn_after, EachTurn, turn_by_turn, turn_gives, heeding_turn, rust_session}
+use Rattle.flash_runs.specs.SameAsRust.{Turn, LendsData, Ready, Steady, turn_after, EachTurn, turn_by_turn, Alone, turn_does, turn_gives, heeding_turn, rust_session}
 
 module _ {F C S A : Type 0} (driver : Driver F C S A) where
   -- the state behind calls and their events
@@ -41,3 +41,6 @@ module _ {F C S A : Type 0} (driver : Driver F C S A) where
     -- and so the calls give what the Rust's give, from the first construction on
     pub sessions : (turns : List (Turn C)) → AllAdmissible turns →
         turn_by_turn driver (turn_gives driver) driver.fresh turns ≡ map gives_of (rust_session driver (heeding_turn driver) none turns)
+    -- with every delivered byte, where in every call nobody else writes into the buffer
+    pub delivered_sessions : (turns : List (Turn C)) → AllAdmissible turns → EachTurn driver (Alone driver) driver.fresh turns →
+        turn_by_turn driver (turn_does driver) driver.fresh turns ≡ rust_session driver (heeding_turn driver) none turns

@@ -107,9 +107,12 @@ module _ {F C S A : Type 0} (driver : Driver F C S A) where
   turn_by_turn f flash [] = []
   turn_by_turn f flash (x ∷ xs) = f flash x ∷ turn_by_turn f (turn_after flash x) xs
 
-  -- a steady call into a buffer where nobody else writes
+  -- a call into whose buffer nobody else writes
+  abbrev pub Alone : F → Turn C → Type 0
+  Alone flash x = Undisturbed x.lent.buffer (turn_steps flash x)
+
   abbrev pub SteadyAlone : F → Turn C → Type 0
-  SteadyAlone flash x = Steady flash x.call x.lent x.events × Undisturbed x.lent.buffer (turn_steps flash x)
+  SteadyAlone flash x = Steady flash x.call x.lent x.events × Alone flash x
 
   abbrev pub Orderly : F → List (Turn C) → Type 0
   Orderly flash turns = EachTurn (λ flash x. Regular flash x.call x.lent x.events) flash turns
@@ -117,9 +120,13 @@ module _ {F C S A : Type 0} (driver : Driver F C S A) where
   abbrev pub session : F → List (Turn C) → List (List (Did (Left S A)))
   session flash turns = turn_by_turn (λ flash x. told (turn_steps flash x)) flash turns
 
-  -- what is given, refusals passed over
+  -- what a call does, refusals passed over: what is given, and the buffer after each
+  abbrev pub turn_does : F → Turn C → List (Did (Left S A))
+  turn_does flash x = told (accepted (turn_steps flash x))
+
+  -- what is given, alone
   abbrev pub turn_gives : F → Turn C → List (Given (Left S A))
-  turn_gives flash x = gives_of (told (accepted (turn_steps flash x)))
+  turn_gives flash x = gives_of (turn_does flash x)
 
   abbrev pub rust_turn : Option S → Turn C → List (Did (Left S A))
   rust_turn before x = rust_call (holding driver.blank before) x.call x.lent x.events
@@ -154,4 +161,4 @@ module _ {F C S A : Type 0} (driver : Driver F C S A) where
         turn_by_turn turn_gives flash turns ≡ map gives_of (rust_session heeding_turn (driver_of flash) turns)
     -- and the delivered bytes, where in every call nobody else writes into the buffer
     pub delivered_sessions : (flash : F) (turns : List (Turn C)) → EachTurn SteadyAlone flash turns →
-        turn_by_turn (λ flash x. told (accepted (turn_steps flash x))) flash turns ≡ rust_session heeding_turn (driver_of flash) turns
+        turn_by_turn turn_does flash turns ≡ rust_session heeding_turn (driver_of flash) turns

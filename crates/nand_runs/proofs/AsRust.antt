@@ -23,9 +23,10 @@ use Rattle.spi_flash.proofs.Laws.{bind_assoc}
 use Rattle.flash_runs.specs.Driver.{takes_of, steps_at, sort_at, takes_at}
 use Rattle.flash_runs.specs.Heeding.{fits_out, heeding}
 use Rattle.flash_runs.specs.Promises.{Promises}
-use Rattle.flash_runs.specs.SameAsRust.{left_by, driver_after, Turn, Steady, rust_call, rust_heeding, driver_of, turn_steps, turn_after, EachTurn, turn_by_turn, turn_gives, holding, heeding_turn, rust_session}
+use Rattle.flash_runs.specs.SameAsRust.{left_by, driver_after, Turn, Steady, rust_call, rust_heeding, driver_of, turn_steps, turn_after, EachTurn, turn_by_turn, SteadyAlone, turn_does, turn_gives, holding, heeding_turn, rust_session}
+use Rattle.flash_runs.proofs.Built.{steady-alone}
 use Rattle.flash_runs.proofs.Promises.{promises}
-use Rattle.flash_runs.proofs.SameAsRust.{turn-gives, left-as}
+use Rattle.flash_runs.proofs.SameAsRust.{turn-gives, turn-delivers, left-as}
 use Rattle.spi_nand.specs.declared.config.NandInit.{NandInit}
 use Rattle.spi_nand.specs.declared.config.NandJedecId.{NandJedecId}
 use Rattle.spi_nand.specs.declared.config.SpiNandConfig.{SpiNandConfig}
@@ -192,6 +193,10 @@ large-gives flash call l es h big = general.same_as_rust.gives flash call l es h
 
 -- ---- any sequence of calls
 
+but-alike : {B : Type 0} (large : Bool) (xs ys : List B) → (large ≡ false → xs ≡ ys) → pick large [] xs ≡ pick large [] ys
+but-alike true xs ys h = refl
+but-alike false xs ys h = h refl
+
 module _ (flash : SpiNandFlash) (x : Turn Call) (h : Steady nand_driver flash x.call x.lent x.events) where
   abbrev before : Option Setup
   before = driver_of nand_driver flash
@@ -201,10 +206,6 @@ module _ (flash : SpiNandFlash) (x : Turn Call) (h : Steady nand_driver flash x.
 
   small-turn : large_page x.call ≡ false → turn_gives nand_driver flash x ≡ gives_of rust
   small-turn small = turn-gives known flash x h ∙ ap gives_of (small-heeding (holding nand_driver.blank before) x.call x.lent x.events small)
-
-  turn-but : (b : Bool) → large_page x.call ≡ b → pick b [] (turn_gives nand_driver flash x) ≡ pick b [] (gives_of rust)
-  turn-but true big = refl
-  turn-but false small = small-turn small
 
   turn-left : (b : Bool) → large_page x.call ≡ b → left_by (told (turn_steps nand_driver flash x)) ≡ left_by rust
   turn-left true big =
@@ -222,10 +223,25 @@ sessions : (flash : SpiNandFlash) (turns : List (Turn Call)) → EachTurn nand_d
 unfolding EachTurn turn_by_turn rust_session
 sessions flash [] h = refl
 sessions flash (x ∷ xs) h =
-    ap₂ (λ a b. a ∷ b) (turn-but flash x h.0 (large_page x.call) refl)
+    ap₂ (λ a b. a ∷ b) (but-alike (large_page x.call) _ _ (small-turn flash x h.0))
     (sessions (turn_after nand_driver flash x) xs h.1
     ∙ ap (λ before. but_large xs (map gives_of (rust_session rust_driver (heeding_turn rust_driver) before xs)))
     (turn-driver flash x h.0))
+
+small-delivers : (flash : SpiNandFlash) (x : Turn Call) → SteadyAlone nand_driver flash x → large_page x.call ≡ false →
+    turn_does nand_driver flash x ≡ heeding_turn rust_driver (driver_of nand_driver flash) x
+small-delivers flash x h small = turn-delivers known flash x h ∙ small-heeding _ x.call x.lent x.events small
+
+delivered-sessions : (flash : SpiNandFlash) (turns : List (Turn Call)) → EachTurn nand_driver (SteadyAlone nand_driver) flash turns →
+    but_large turns (turn_by_turn nand_driver (turn_does nand_driver) flash turns) ≡
+    but_large turns (rust_session rust_driver (heeding_turn rust_driver) (driver_of nand_driver flash) turns)
+unfolding EachTurn turn_by_turn rust_session
+delivered-sessions flash [] h = refl
+delivered-sessions flash (x ∷ xs) h =
+    ap₂ (λ a b. a ∷ b) (but-alike (large_page x.call) _ _ (small-delivers flash x h.0))
+    (delivered-sessions (turn_after nand_driver flash x) xs h.1
+    ∙ ap (λ before. but_large xs (rust_session rust_driver (heeding_turn rust_driver) before xs))
+    (turn-driver flash x h.0.0))
 
 pub as-rust : AsRust
 as-rust = record {
@@ -241,5 +257,7 @@ as-rust = record {
       (none-left.replied (replies_of es) l.buffer, none-left.heeded (takes_at nand_driver (Call.WithConfig config) l) es l.buffer);
   leaves_none = λ l es. let none-left = refused-none l in (none-left.replied (replies_of es) l.buffer, none-left.heeded Takes.Nothing es l.buffer);
   sessions = sessions;
+  delivered_sessions = delivered-sessions;
   fresh_sessions = λ turns asked. sessions nand_driver.fresh turns (nand-built.steady turns asked);
+  fresh_delivered_sessions = λ turns asked alone. delivered-sessions nand_driver.fresh turns (steady-alone nand_driver turns nand_driver.fresh (nand-built.steady turns asked) alone);
 }

@@ -14,7 +14,7 @@ use Rattle.spi_flash.specs.declared.loan.Takes.{Takes}
 use Rattle.flash_runs.specs.Built.{AllAdmissible}
 use Rattle.flash_runs.specs.Heeding.{heeding}
 use Rattle.flash_runs.specs.Driver.{Driver, steps_at}
-use Rattle.flash_runs.specs.SameAsRust.{left_by, Turn, Steady, Regular, rust_call, rust_heeding, driver_of, EachTurn, turn_by_turn, turn_gives, heeding_turn, rust_session}
+use Rattle.flash_runs.specs.SameAsRust.{left_by, Turn, Steady, Regular, rust_call, rust_heeding, driver_of, EachTurn, turn_by_turn, Alone, SteadyAlone, turn_does, turn_gives, heeding_turn, rust_session}
 use Rattle.spi_nand.specs.declared.answer.Answer as Nand
 use Rattle.spi_nand.specs.declared.config.NandJedecId.{NandJedecId}
 use Rattle.spi_nand.specs.declared.config.SpiNandConfig.{SpiNandConfig}
@@ -60,7 +60,7 @@ refused_by l es = performed (program_on_bus l.given refused-page) (replies_of es
 abbrev pub refused_heeding : Lent → List (Event Call) → List (Did Left)
 refused_heeding l es = heeding Takes.Nothing (program_on_bus l.given refused-page) es l.buffer
 
--- what calls give, but for the constructions that are the difference
+-- what calls give or do, but for the constructions that are the difference
 abbrev pub but_large : {B : Type 0} → List (Turn Call) → List (List B) → List (List B)
 but_large [] gs = []
 but_large (x ∷ xs) [] = []
@@ -96,7 +96,15 @@ pub record AsRust : Type 0 where
   pub sessions : (flash : SpiNandFlash) (turns : List (Turn Call)) → EachTurn nand_driver (λ flash x. Steady nand_driver flash x.call x.lent x.events) flash turns →
       but_large turns (turn_by_turn nand_driver (turn_gives nand_driver) flash turns) ≡
       but_large turns (map gives_of (rust_session rust_driver (heeding_turn rust_driver) (driver_of nand_driver flash) turns))
+  -- with every delivered byte, where in every call nobody else writes into the buffer
+  pub delivered_sessions : (flash : SpiNandFlash) (turns : List (Turn Call)) → EachTurn nand_driver (SteadyAlone nand_driver) flash turns →
+      but_large turns (turn_by_turn nand_driver (turn_does nand_driver) flash turns) ≡
+      but_large turns (rust_session rust_driver (heeding_turn rust_driver) (driver_of nand_driver flash) turns)
   -- from a driver before any construction on, where constructions alone are given a geometry inside the bounds
   pub fresh_sessions : (turns : List (Turn Call)) → AllAdmissible nand_driver turns →
       but_large turns (turn_by_turn nand_driver (turn_gives nand_driver) nand_driver.fresh turns) ≡
       but_large turns (map gives_of (rust_session rust_driver (heeding_turn rust_driver) none turns))
+  -- and there too with every delivered byte
+  pub fresh_delivered_sessions : (turns : List (Turn Call)) → AllAdmissible nand_driver turns → EachTurn nand_driver (Alone nand_driver) nand_driver.fresh turns →
+      but_large turns (turn_by_turn nand_driver (turn_does nand_driver) nand_driver.fresh turns) ≡
+      but_large turns (rust_session rust_driver (heeding_turn rust_driver) none turns)
