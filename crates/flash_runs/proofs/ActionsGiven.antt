@@ -8,9 +8,10 @@ use Rattle.qspi.specs.declared.transfer.Transfer.{Transfer}
 use Rattle.qspi.specs.declared.frame.Frame.{Frame}
 use Rattle.qspi.specs.declared.frame.Exchanged.{Exchanged}
 use Rattle.spi_flash.specs.declared.loan.Takes.{Takes}
-use Rattle.spi_flash.specs.Loan.{Lent}
-use Rattle.spi_flash.specs.Machine.{Decision, more, well, bad, Config, out, rest, lent_as, settle, moved, machine, Simulates, Trail, decided_trail, heard_trail, trail}
-use Rattle.spi_flash.specs.Path.{actions, asked, Bounded}
+use Rattle.spi_flash.specs.Loan.{Lent, lent_as}
+use Rattle.spi_flash.proofs.Machine.{Decision, more, well, bad, Config, out, rest, settle, moved, machine, Simulates, Trail, decided_trail, heard_trail, trail}
+use Rattle.spi_flash.specs.Path.{asked, Bounded}
+use Rattle.spi_flash.proofs.Paths.{actions}
 use Rattle.spi_flash.specs.Prog.{Prog, ask}
 use Rattle.spi_flash.specs.Run.{Event, reply, call, Moved, goes_on}
 use Rattle.spi_flash.proofs.Runs.{remaining, remaining-some, heard-view, every-trail}

@@ -13,7 +13,7 @@ use Rattle.qspi.proofs.Cases.{by_cases}
 use Rattle.spi_flash.specs.Loan.{Lent}
 use Rattle.spi_flash.specs.Prog.{ret}
 use Rattle.spi_flash.specs.Run.{Event, call, Given, act, ended, failed, refused, goes_on, opening, call_of}
-use Rattle.spi_flash.specs.Machine.{machine, rest}
+use Rattle.spi_flash.proofs.Machine.{machine, rest}
 use Rattle.spi_flash.specs.declared.error.FlashError.{FlashError}
 use Rattle.spi_flash.specs.declared.loan.Takes.{Takes}
 use Rattle.flash_runs.specs.Driver.{Left, leaving, uses, Driver, sort_at, program_at, bounded_at, steps_at}

@@ -15,8 +15,8 @@ use Rattle.qspi.specs.declared.frame.Advanced.{Advanced}
 use Rattle.qspi.specs.declared.frame.Frame.{Frame}
 use Rattle.qspi.specs.declared.frame.Stage.{Stage}
 use Rattle.qspi.proofs.Cases.{by_cases}
-use Rattle.spi_flash.specs.Loan.{Lent, ready_for}
-use Rattle.spi_flash.specs.Machine.{Decision, more, well, bad, Config, out, rest, lent_as, settle, moved, machine}
+use Rattle.spi_flash.specs.Loan.{Lent, ready_for, lent_as}
+use Rattle.spi_flash.proofs.Machine.{Decision, more, well, bad, Config, out, rest, settle, moved, machine}
 use Rattle.spi_flash.specs.Run.{Event, reply, call, Moved, goes_on}
 use Rattle.spi_flash.specs.Seen.{unless_refused, Taken}
 use Rattle.spi_flash.specs.declared.error.FlashError.{FlashError}

@@ -15,8 +15,7 @@ use Rattle.qspi.specs.declared.bus.Reply.{Reply}
 use Rattle.spi_flash.specs.Beginning as Beginning
 use Rattle.spi_flash.specs.Entry.{entry_of}
 use Rattle.spi_flash.specs.Settling as Settling
-use Rattle.spi_flash.specs.Loan.{Lent}
-use Rattle.spi_flash.specs.Machine.{lent_as}
+use Rattle.spi_flash.specs.Loan.{Lent, lent_as}
 use Rattle.spi_flash.specs.Run.{Event, reply, call, System, state_after}
 use Rattle.spi_flash.specs.Seen.{gives_of}
 use Rattle.spi_flash.specs.declared.loan.Takes.{Takes}

@@ -14,7 +14,7 @@ use Rattle.qspi.specs.Choice.{pick}
 use Rattle.spi_flash.specs.Loan.{Lent}
 use Rattle.spi_flash.specs.Prog.{ret}
 use Rattle.spi_flash.specs.Run.{Event, reply, call, Given, act, ended, failed, refused, Entry, goes_on}
-use Rattle.spi_flash.specs.Machine.{Decision, machine, rest}
+use Rattle.spi_flash.proofs.Machine.{Decision, machine, rest}
 use Rattle.spi_flash.specs.Seen.{unless_refused, Taken, Undisturbed}
 use Rattle.spi_flash.specs.declared.loan.Takes.{Takes}
 use Rattle.flash_runs.specs.Contents.{contents_from, buffer_after, run, steps, read_in, Delivers}

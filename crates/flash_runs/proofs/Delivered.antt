@@ -21,7 +21,7 @@ use Rattle.spi_flash.specs.Loan.{Lent, ready_for}
 use Rattle.spi_flash.specs.Path.{Bounded}
 use Rattle.spi_flash.specs.Prog.{Prog, ask}
 use Rattle.spi_flash.specs.Run.{Event, reply, call, System, goes_on, state_after}
-use Rattle.spi_flash.specs.Machine.{tree, Onward, Simulates}
+use Rattle.spi_flash.proofs.Machine.{tree, Onward, Simulates}
 use Rattle.spi_flash.specs.Seen.{unless_refused}
 use Rattle.spi_flash.specs.declared.loan.Takes.{Takes}
 use Rattle.spi_flash.proofs.Laws.{bounded-fail}

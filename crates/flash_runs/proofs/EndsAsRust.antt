@@ -9,13 +9,13 @@ use mathlib.Core.List.{List, [], ◌∷◌, ◌++◌}
 use Rattle.qspi.specs.Frame.{first_of}
 use Rattle.qspi.specs.Bytes.{delivered_of}
 use Rattle.spi_flash.specs.Loan.{Lent}
-use Rattle.spi_flash.specs.Machine.{out, machine}
+use Rattle.spi_flash.proofs.Machine.{out, machine}
 use Rattle.spi_flash.specs.OnBus.{BusProg, answers, stops, does, fills, program_on_bus, performed}
 use Rattle.spi_flash.specs.Run.{Event, Answer, Given, act, ended, failed, refused, Entry, System, goes_on, Fitting, answering, Lending}
-use Rattle.spi_flash.specs.Seen.{told, gives_of, replies_of, accepted, events_of, Taken, SameData}
+use Rattle.spi_flash.specs.Seen.{told, gives_of, replies_of, accepted, Taken, SameData}
 use Rattle.spi_flash.specs.declared.loan.Takes.{Takes}
 use Rattle.spi_flash.proofs.Heeded.{Heeds, heeds}
-use Rattle.spi_flash.proofs.Performs.{looking-given}
+use Rattle.spi_flash.proofs.Performs.{events_of, looking-given}
 use Rattle.flash_runs.specs.Driver.{Left, Driver, takes_at, program_at, steps_at}
 use Rattle.flash_runs.specs.SameAsRust.{LendsData, rust_call, left_by}
 use Rattle.flash_runs.proofs.General.{decide_next}

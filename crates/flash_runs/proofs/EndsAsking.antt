@@ -7,8 +7,8 @@ use lib.ListN.{length}
 use Rattle.qspi.specs.Frame.{Outcome, first_of, exchange_of}
 use Rattle.qspi.specs.declared.frame.Exchanged.{Exchanged}
 use Rattle.qspi.specs.declared.frame.Frame.{Frame}
-use Rattle.spi_flash.specs.Loan.{Lent}
-use Rattle.spi_flash.specs.Machine.{Decision, more, well, bad, Config, machine, out, lent_as, settle, moved, Trail, decided_trail, heard_trail, trail}
+use Rattle.spi_flash.specs.Loan.{Lent, lent_as}
+use Rattle.spi_flash.proofs.Machine.{Decision, more, well, bad, Config, machine, out, settle, moved, Trail, decided_trail, heard_trail, trail}
 use Rattle.spi_flash.specs.Path.{Past, End, going, done, failed, spent, delays, asked, Well, Ends}
 use Rattle.spi_flash.specs.Prog.{ask}
 use Rattle.spi_flash.specs.Run as Run

@@ -9,7 +9,7 @@ use Rattle.qspi.specs.declared.frame.Exchanged.{Exchanged}
 use Rattle.spi_flash.specs.Beginning as Beginning
 use Rattle.spi_flash.specs.Beginning.{Calls}
 use Rattle.spi_flash.specs.Loan.{Lent}
-use Rattle.spi_flash.specs.Machine.{Decision, more, well, bad}
+use Rattle.spi_flash.proofs.Machine.{Decision, more, well, bad}
 use Rattle.spi_flash.specs.Replying as Replying
 use Rattle.spi_flash.specs.Run.{Moved, System}
 use Rattle.spi_flash.specs.Settling as Settling

@@ -13,15 +13,15 @@ use Rattle.qspi.specs.declared.bus.Reply.{Reply}
 use Rattle.qspi.specs.declared.frame.Advanced.{Advanced}
 use Rattle.qspi.specs.declared.frame.Frame.{Frame}
 use Rattle.qspi.proofs.Cases.{by_cases}
-use Rattle.spi_flash.specs.Loan.{Lent, ready_for}
-use Rattle.spi_flash.specs.Machine.{Decision, more, well, bad, Config, out, rest, lent_as, settle, moved, machine}
+use Rattle.spi_flash.specs.Loan.{Lent, ready_for, lent_as}
+use Rattle.spi_flash.proofs.Machine.{Decision, more, well, bad, Config, out, rest, settle, moved, machine}
 use Rattle.spi_flash.specs.OnBus.{BusProg, answers, stops, does, fills, performed}
 use Rattle.spi_flash.specs.Run.{Event, reply, call, Given, act, ended, failed, Entry, Moved, entry, goes_on, Answer}
-use Rattle.spi_flash.specs.Seen.{Did, did, told_then, told, replies_of, accepted, events_of}
+use Rattle.spi_flash.specs.Seen.{Did, did, told_then, told, replies_of, accepted}
 use Rattle.spi_flash.specs.declared.error.FlashError.{FlashError}
 use Rattle.spi_flash.specs.declared.loan.Takes.{Takes}
 use Rattle.spi_flash.proofs.OnBus.{answer_of}
-use Rattle.spi_flash.proofs.Performs.{looked, looking, performed_then, does-first, Takes-it, counts, settle-takes}
+use Rattle.spi_flash.proofs.Performs.{events_of, looked, looking, performed_then, does-first, Takes-it, counts, settle-takes}
 use Rattle.flash_runs.specs.Heeding.{heeding}
 use Rattle.flash_runs.specs.Refusals.{awaits}
 use Rattle.flash_runs.proofs.Judged.{shown-awaits}

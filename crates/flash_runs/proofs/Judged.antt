@@ -18,10 +18,9 @@ use Rattle.qspi.specs.declared.frame.Advanced.{Advanced}
 use Rattle.spi_flash.specs.Entry.{entry_of}
 use Rattle.spi_flash.specs.Beginning as Beginning
 use Rattle.spi_flash.specs.Settling as Settling
-use Rattle.spi_flash.specs.Loan.{Lent, ready_for, exchange_for}
+use Rattle.spi_flash.specs.Loan.{Lent, ready_for, exchange_for, lent_as}
 use Rattle.spi_flash.specs.Run as Run
 use Rattle.spi_flash.specs.Run.{Event, reply, call, System, goes_on, run_of, begun_with, state_after}
-use Rattle.spi_flash.specs.Machine.{lent_as}
 use Rattle.spi_flash.specs.declared.error.FlashError.{FlashError}
 use Rattle.spi_flash.specs.declared.loan.Takes.{Takes}
 use Rattle.qspi.proofs.Cases.{by_cases}

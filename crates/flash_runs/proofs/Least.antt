@@ -7,11 +7,12 @@ use Rattle.qspi.specs.declared.transfer.Transfer.{Transfer}
 use Rattle.qspi.specs.declared.frame.Frame.{Frame}
 use Rattle.qspi.specs.declared.frame.Exchanged.{Exchanged}
 use Rattle.spi_flash.specs.declared.loan.Takes.{Takes}
-use Rattle.spi_flash.specs.Loan.{Lent}
+use Rattle.spi_flash.specs.Loan.{Lent, lent_as}
 use Rattle.spi_flash.specs.Prog.{Prog, ask}
-use Rattle.spi_flash.specs.Path.{Past, End, going, done, failed, IfWell, spent, asked, delays, AtLeast, Never}
+use Rattle.spi_flash.specs.Path.{Past, End, going, done, failed, spent, asked, delays}
+use Rattle.spi_flash.proofs.Paths.{IfWell, AtLeast, Never}
 use Rattle.spi_flash.specs.Run.{Event, reply, call, Moved, goes_on, delay_asked}
-use Rattle.spi_flash.specs.Machine.{Decision, more, well, bad, Config, out, lent_as, settle, moved, machine, Simulates, Trail, decided_trail, heard_trail, trail}
+use Rattle.spi_flash.proofs.Machine.{Decision, more, well, bad, Config, out, settle, moved, machine, Simulates, Trail, decided_trail, heard_trail, trail}
 use Rattle.spi_flash.proofs.Runs.{heard-view, every-trail, trail-asks}
 use Rattle.spi_flash.proofs.Laws.{if-well-mono}
 use Rattle.flash_runs.specs.Watch.{succeeded_then, Succeeded}

@@ -10,9 +10,9 @@ use Rattle.qspi.specs.Frame.{action_of, exchange_of, advanced_of, taken_in, gave
 use Rattle.qspi.specs.declared.bus.Reply.{Reply}
 use Rattle.qspi.specs.declared.frame.Advanced.{Advanced}
 use Rattle.spi_flash.specs.Settling as Settling
-use Rattle.spi_flash.specs.Loan.{Lent, ready_for, exchange_for}
+use Rattle.spi_flash.specs.Loan.{Lent, ready_for, exchange_for, lent_as}
 use Rattle.spi_flash.specs.Run.{Event, reply, call, Given, act, ended, failed, refused, Moved, System, entry, at_once, goes_on, begun_with, run_of, call_of, state_after}
-use Rattle.spi_flash.specs.Machine.{Config, out, rest, lent_as, settle, moved, answered, machine}
+use Rattle.spi_flash.proofs.Machine.{Config, out, rest, settle, moved, answered, machine}
 use Rattle.spi_flash.specs.declared.loan.Takes.{Takes}
 use Rattle.qspi.proofs.Cases.{by_cases}
 use Rattle.flash_runs.specs.Driver.{Left, Driver}

@@ -12,13 +12,13 @@ use Rattle.qspi.specs.Frame.{first_of, action_of}
 use Rattle.qspi.specs.Shown.{shown_of}
 use Rattle.spi_flash.specs.Prog.{Prog, ask}
 use Rattle.spi_flash.specs.Path.{Bounded}
-use Rattle.spi_flash.specs.Machine.{out, machine}
+use Rattle.spi_flash.proofs.Machine.{out, machine}
 use Rattle.spi_flash.specs.Run.{Event, Given, act, ended, failed, refused, Entry, System, goes_on, Fitting, Answer, at_once, opening, call_of}
-use Rattle.spi_flash.specs.Seen.{Did, told_then, told, gives_of, replies_of, accepted, events_of, SameData, Undisturbed}
+use Rattle.spi_flash.specs.Seen.{Did, told_then, told, gives_of, replies_of, accepted, SameData, Undisturbed}
 use Rattle.spi_flash.specs.OnBus.{BusProg, program_on_bus, performed}
 use Rattle.spi_flash.specs.declared.loan.Takes.{Takes}
 use Rattle.spi_flash.proofs.Dataless.{data_uses}
-use Rattle.spi_flash.proofs.Performs.{Looks, looks_then, looking, looking-whole, looking-given, performs}
+use Rattle.spi_flash.proofs.Performs.{events_of, Looks, looks_then, looking, looking-whole, looking-given, performs}
 use Rattle.spi_flash.proofs.Heeded.{Closed, closed-whole, fitting-told, Heeds, heeds}
 use Rattle.flash_runs.specs.Driver.{Left, Sort, constructs, tells, releases, uses, Driver, sort_at, takes_at, program_at, steps_at}
 use Rattle.flash_runs.specs.Heeding.{heeding}

@@ -26,9 +26,9 @@ use Rattle.qspi.specs.declared.frame.Advanced.{Advanced}
 use Rattle.qspi.specs.declared.frame.Frame.{Frame}
 use Rattle.qspi.specs.declared.frame.Stage.{Stage}
 use Rattle.spi_flash.specs.declared.loan.Takes.{Takes}
-use Rattle.spi_flash.specs.Loan.{Lent, ready_for}
+use Rattle.spi_flash.specs.Loan.{Lent, ready_for, lent_as}
 use Rattle.spi_flash.specs.Run.{Event, reply, call, Moved, goes_on}
-use Rattle.spi_flash.specs.Machine.{Decision, more, well, bad, Config, out, rest, lent_as, settle, moved, machine, tree, Onward, Simulates}
+use Rattle.spi_flash.proofs.Machine.{Decision, more, well, bad, Config, out, rest, settle, moved, machine, tree, Onward, Simulates}
 use Rattle.spi_flash.specs.Prog.{Prog, ask}
 use Rattle.spi_flash.proofs.OnBus.{false≢true}
 use Rattle.spi_flash.proofs.Performs.{first-shown, long-scratch}

@@ -11,8 +11,7 @@ use Rattle.qspi.specs.Frame.{Outcome, exchange_of, delivered_by}
 use Rattle.qspi.specs.declared.frame.Exchanged.{Exchanged}
 use Rattle.spi_flash.specs.Entry.{entry_of}
 use Rattle.spi_flash.specs.Beginning.{Calls, told, entered, opened, freed, constructed, begun, at_rest, begin_at, begins}
-use Rattle.spi_flash.specs.Loan.{Lent, ready_for, exchange_for}
-use Rattle.spi_flash.specs.Machine.{lent_as}
+use Rattle.spi_flash.specs.Loan.{Lent, ready_for, exchange_for, lent_as}
 use Rattle.spi_flash.specs.Replying.{exchanged, step_at, steps}
 use Rattle.spi_flash.specs.Settling.{settled}
 use Rattle.spi_flash.specs.Shape.{Given, Shape}

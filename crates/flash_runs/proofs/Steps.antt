@@ -10,8 +10,8 @@ use Rattle.qspi.specs.declared.bus.Reply.{Reply}
 use Rattle.qspi.specs.declared.frame.Advanced.{Advanced}
 use Rattle.qspi.specs.declared.frame.Exchanged.{Exchanged}
 use Rattle.qspi.specs.declared.frame.Frame.{Frame}
-use Rattle.spi_flash.specs.Loan.{Lent, ready_for, exchange_for}
-use Rattle.spi_flash.specs.Machine.{lent_as, refusing}
+use Rattle.spi_flash.specs.Loan.{Lent, ready_for, exchange_for, lent_as}
+use Rattle.spi_flash.proofs.Machine.{refusing}
 use Rattle.spi_flash.specs.declared.error.FlashError.{FlashError}
 use Rattle.qspi.proofs.Cases.{by_cases}
 use Rattle.flash_runs.proofs.General.{Parts, Job, Flash, Step, settled, exchanged, afterwards, proceeds}

@@ -11,8 +11,9 @@ use Rattle.qspi.specs.declared.transfer.Transfer.{Transfer}
 use Rattle.qspi.specs.ShownBytes.{start_shown}
 use Rattle.qspi.specs.Frame.{Outcome}
 use Rattle.spi_flash.specs.Loan.{Lent}
-use Rattle.spi_flash.specs.Machine.{Onward, Simulates, tree}
-use Rattle.spi_flash.specs.Path.{delays, actions, Bounded, Reaches, Ends, Never}
+use Rattle.spi_flash.proofs.Machine.{Onward, Simulates, tree}
+use Rattle.spi_flash.specs.Path.{delays, Bounded, Ends}
+use Rattle.spi_flash.proofs.Paths.{actions, Reaches, Never}
 use Rattle.spi_flash.specs.Prog.{Prog, ret, ask}
 use Rattle.spi_flash.specs.Run.{Moved}
 use Rattle.spi_flash.specs.Seen.{select_after}

@@ -18,7 +18,7 @@ use Rattle.spi_flash.specs.Loan.{Lent}
 use Rattle.spi_flash.specs.Prog.{Prog, ret, fail, ask}
 use Rattle.spi_flash.specs.Run as Run
 use Rattle.spi_flash.specs.Run.{Event, call, System, entry, goes_on, begun_with, run_of, opening, call_of}
-use Rattle.spi_flash.specs.Machine.{more, out, settle, machine, tree, refusing}
+use Rattle.spi_flash.proofs.Machine.{more, out, settle, machine, tree, refusing}
 use Rattle.spi_flash.specs.declared.error.FlashError.{FlashError}
 use Rattle.spi_flash.specs.declared.loan.Takes.{Takes}
 use Rattle.qspi.proofs.Cases.{by_cases}

@@ -7,7 +7,8 @@ use Rattle.qspi.specs.declared.transfer.Body.{Body}
 use Rattle.qspi.specs.declared.transfer.Payload.{Payload}
 use Rattle.qspi.specs.declared.transfer.Sink.{Sink}
 use Rattle.qspi.specs.declared.transfer.Transfer.{Transfer}
-use Rattle.spi_flash.specs.Path.{delays, actions, Bounded}
+use Rattle.spi_flash.specs.Path.{delays, Bounded}
+use Rattle.spi_flash.proofs.Paths.{actions}
 use Rattle.spi_flash.specs.Prog.{Prog}
 use Rattle.spi_flash.proofs.Dataless.{payload_data, sink_data, data_uses}
 use Rattle.spi_flash.proofs.Unread.{buffer_reads}

@@ -11,14 +11,15 @@ use Rattle.qspi.specs.Bytes.{AllBytes}
 use Rattle.qspi.specs.Frame.{Outcome, first_of, exchange_of}
 use Rattle.qspi.specs.declared.frame.Exchanged.{Exchanged}
 use Rattle.qspi.specs.declared.frame.Frame.{Frame}
-use Rattle.spi_flash.specs.Loan.{Lent}
+use Rattle.spi_flash.specs.Loan.{Lent, lent_as}
 use Rattle.spi_flash.specs.Prog.{Prog, ask}
-use Rattle.spi_flash.specs.Path.{Past, End, going, done, failed, spent, delays, actions, asked, Well, Bounded, Reaches, Ends, Never}
+use Rattle.spi_flash.specs.Path.{Past, End, going, done, failed, spent, delays, asked, Well, Bounded, Ends}
+use Rattle.spi_flash.proofs.Paths.{actions, Reaches, Never}
 use Rattle.spi_flash.specs.Run as Run
 use Rattle.spi_flash.specs.Seen.{told_then, told}
 use Rattle.spi_flash.specs.declared.loan.Takes.{Takes}
 use Rattle.spi_flash.specs.Run.{Event, reply, call, delay_asked, Fitting, HasEnded, Lending, answering, goes_on}
-use Rattle.spi_flash.specs.Machine.{Decision, more, well, bad, Config, machine, out, lent_as, settle, moved, Trail, decided_trail, heard_trail, trail}
+use Rattle.spi_flash.proofs.Machine.{Decision, more, well, bad, Config, machine, out, settle, moved, Trail, decided_trail, heard_trail, trail}
 use Rattle.spi_flash.proofs.Runs.{heard-view, first-delay, trail-asks, run-bound, run_ends}
 use Rattle.spi_flash.proofs.Reach.{reached}
 use Rattle.flash_runs.specs.Driver.{Left, Driver, takes_at, program_at, bound_at, most_actions_at, ends_at, run_at, steps_at}

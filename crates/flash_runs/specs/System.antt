@@ -2,8 +2,7 @@
 use Rattle.std.specs.Prelude.{ℕ, Bool, true, false, List, length}
 use Rattle.qspi.specs.Shown.{shown_of}
 use Rattle.qspi.specs.declared.bus.Reply.{Reply}
-use Rattle.spi_flash.specs.Loan.{Lent}
-use Rattle.spi_flash.specs.Machine.{lent_as}
+use Rattle.spi_flash.specs.Loan.{Lent, lent_as}
 use Rattle.spi_flash.specs.Replying as Replying
 use Rattle.spi_flash.specs.Run as Run
 use Rattle.spi_flash.specs.Run.{Moved, System}

@@ -3,4 +3,3 @@ pub mod Call
 pub mod Step
 pub mod Next
 pub mod Wait
-pub mod Answer

@@ -7,7 +7,8 @@ use lib.Dec.{eqb}
 use borrow.Author.Tests.{eqb-true}
 use Rattle.qspi.proofs.Cases.{by_cases}
 use Rattle.qspi.specs.declared.transfer.Sink.{Sink}
-use Rattle.spi_flash.specs.Path.{delays, actions, Bounded, Never}
+use Rattle.spi_flash.specs.Path.{delays, Bounded}
+use Rattle.spi_flash.proofs.Paths.{actions, Never}
 use Rattle.spi_flash.proofs.Laws.{bounded-more, bounded-guard, bounded-never, never-left, never-then, never-refused, answered, ended}
 use Rattle.flash_runs.specs.Weight.{Figures}
 use Rattle.flash_runs.proofs.Weighing.{Weighs, delay_figures, delays-weigh, actions-weigh}

@@ -15,7 +15,8 @@ use Rattle.qspi.specs.Bytes.{AllBytes}
 use Rattle.qspi.specs.declared.transfer.Payload.{Payload}
 use Rattle.qspi.specs.declared.transfer.Sink.{Sink}
 use Rattle.spi_flash.specs.Prog.{transfer}
-use Rattle.spi_flash.specs.Path.{Answers, delays, Reaches, Ends}
+use Rattle.spi_flash.specs.Path.{Answers, delays, Ends}
+use Rattle.spi_flash.proofs.Paths.{Reaches}
 use Rattle.spi_flash.proofs.Laws.{ends-ret, ends-bind, ends-then, ends-eq, ends-transfer, ends-refuse, ends-guard, reaches_then, reaches-fail, reaches-refused, reaches-never}
 use Rattle.spi_flash.proofs.Loops.{ends-loop}
 use Rattle.spi_flash.proofs.Replies.{byte, zeros, delivery, same_bytes}

@@ -12,7 +12,7 @@ use Rattle.qspi.specs.declared.transfer.Payload.{Payload}
 use Rattle.qspi.specs.declared.transfer.Sink.{Sink}
 use Rattle.qspi.specs.declared.transfer.Transfer.{Transfer}
 use Rattle.qspi.specs.Frame.{Outcome}
-use Rattle.spi_flash.specs.Machine.{Onward}
+use Rattle.spi_flash.proofs.Machine.{Onward}
 use Rattle.spi_flash.specs.Wait.{first_wait, next_wait}
 use Rattle.spi_flash.specs.declared.error.FlashError.{FlashError}
 use Rattle.spi_flash.specs.declared.wait.Wait.{Wait}

@@ -5,7 +5,8 @@ use mathlib.Core.Path.{◌≡◌, refl, sym, ◌∙◌, subst}
 use mathlib.Core.List.{List}
 use lib.ListN.{length}
 use Rattle.qspi.specs.Bytes.{AllBytes}
-use Rattle.spi_flash.specs.Path.{delays, actions, Bounded, Reaches, Ends, Never}
+use Rattle.spi_flash.specs.Path.{delays, Bounded, Ends}
+use Rattle.spi_flash.proofs.Paths.{actions, Reaches, Never}
 use Rattle.flash_runs.specs.Driver.{works_on}
 use Rattle.flash_runs.proofs.Supplies.{Asks, Bounds, Supplies, Known}
 use Rattle.spi_nand.specs.declared.call.Call.{Call}

@@ -6,7 +6,8 @@ use mathlib.Core.Path.{◌≡◌}
 use lib.Dec.{ltb}
 use borrow.Author.Tests.{ltb-true, ltb-false}
 use Rattle.qspi.proofs.Cases.{by_cases}
-use Rattle.spi_flash.specs.Path.{delays, AtLeast}
+use Rattle.spi_flash.specs.Path.{delays}
+use Rattle.spi_flash.proofs.Paths.{AtLeast}
 use Rattle.spi_flash.specs.Prog.{◌>>=◌, ◌>>◌, refuse}
 use Rattle.spi_flash.specs.WaitLaw.{delayed_wait}
 use Rattle.spi_flash.proofs.Laws.{at-least-zero, at-least-fail, at-least-then, at-least-transfer, at-least-eq}

@@ -8,7 +8,7 @@ use Rattle.qspi.specs.declared.transfer.Payload.{Payload}
 use Rattle.qspi.specs.declared.transfer.Sink.{Sink}
 use Rattle.qspi.proofs.Cases.{by_cases}
 use Rattle.spi_flash.proofs.Laws.{bind_assoc, then-assoc}
-use Rattle.spi_flash.specs.Machine.{tree}
+use Rattle.spi_flash.proofs.Machine.{tree}
 use Rattle.std.specs.Prelude.{if◌then◌else◌}
 use Rattle.spi_flash.specs.Prog.{Prog, ret, fail, ask, ◌>>=◌, ◌>>◌, refuse}
 use Rattle.spi_flash.specs.declared.error.FlashError.{FlashError}

@@ -11,7 +11,7 @@ use Rattle.qspi.specs.Choice.{pick}
 use Rattle.qspi.specs.declared.transfer.Payload.{Payload}
 use Rattle.qspi.specs.declared.transfer.Sink.{Sink}
 use Rattle.spi_flash.specs.Loan.{Lent}
-use Rattle.spi_flash.specs.Machine.{tree}
+use Rattle.spi_flash.proofs.Machine.{tree}
 use Rattle.spi_flash.specs.declared.loan.Takes.{Takes}
 use Rattle.flash_runs.specs.Begins.{SameTaken}
 use Rattle.flash_runs.specs.Driver.{uses, takes_at}

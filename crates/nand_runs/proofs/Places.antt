@@ -1,7 +1,7 @@
 -- The NAND driver as the general theory has it: what follows a transfer, how a call opens, and where a call stands.
 use mathlib.Core.Bool.{true}
 use mathlib.Core.Path.{◌≡◌}
-use Rattle.spi_flash.specs.Machine.{Decision}
+use Rattle.spi_flash.proofs.Machine.{Decision}
 use Rattle.flash_runs.proofs.General as General
 use Rattle.flash_runs.proofs.General.{Place, Parts, parts_of}
 use Rattle.spi_nand.specs.Config.{in_bounds}

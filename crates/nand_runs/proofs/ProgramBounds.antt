@@ -6,7 +6,8 @@ use mathlib.Core.Path.{◌≡◌}
 use mathlib.Core.List.{List}
 use lib.ListN.{length}
 use Rattle.qspi.specs.Bytes.{AllBytes}
-use Rattle.spi_flash.specs.Path.{delays, actions, Bounded, Reaches, Ends, Never}
+use Rattle.spi_flash.specs.Path.{delays, Bounded, Ends}
+use Rattle.spi_flash.proofs.Paths.{actions, Reaches, Never}
 use Rattle.spi_nand.specs.Config.{in_bounds}
 use Rattle.spi_nand.specs.declared.call.Call.{Call}
 use Rattle.spi_nand.specs.declared.setup.Setup.{Setup}

@@ -11,7 +11,8 @@ use Rattle.qspi.specs.Bytes.{AllBytes}
 use Rattle.qspi.specs.declared.transfer.Sink.{Sink}
 use Rattle.qspi.proofs.Cases.{by_cases}
 use Rattle.spi_flash.specs.Prog.{◌>>◌}
-use Rattle.spi_flash.specs.Path.{delays, Reaches, Ends, Never}
+use Rattle.spi_flash.specs.Path.{delays, Ends}
+use Rattle.spi_flash.proofs.Paths.{Reaches, Never}
 use Rattle.spi_flash.proofs.Laws.{ends-ret, ends-bind, ends-then, ends-eq, ends-reaches, reaches-never, never-fail, never-left, never-then}
 use Rattle.spi_flash.proofs.Replies.{delivery}
 use Rattle.flash_runs.specs.Driver.{leaving}

@@ -7,10 +7,11 @@ use mathlib.Core.List.{List, [], ◌∷◌}
 use Rattle.qspi.specs.Frame.{Outcome, first_of}
 use Rattle.qspi.specs.declared.transfer.Transfer.{Transfer}
 use Rattle.spi_flash.specs.Loan.{Lent}
-use Rattle.spi_flash.specs.Path.{delays, Bounded, AtLeast}
+use Rattle.spi_flash.specs.Path.{delays, Bounded}
+use Rattle.spi_flash.proofs.Paths.{AtLeast}
 use Rattle.spi_flash.specs.Prog.{Prog, ret, ask, ◌>>◌}
 use Rattle.spi_flash.specs.Run.{Event, call, Entry, entry, goes_on, delay_asked}
-use Rattle.spi_flash.specs.Machine.{Decision, more, out, settle, machine, Simulates}
+use Rattle.spi_flash.proofs.Machine.{Decision, more, out, settle, machine, Simulates}
 use Rattle.spi_flash.specs.declared.loan.Takes.{Takes}
 use Rattle.spi_flash.proofs.Laws.{at-least-zero, at-least-then, at-least-eq}
 use Rattle.spi_flash.proofs.Runs.{first-delay, run-bound}

@@ -19,7 +19,7 @@ use Rattle.std.specs.Prelude.{if◌then◌else◌, Err, Option, Some, None}
 use Rattle.spi_flash.specs.Prog.{Prog, ret, fail, ask, ◌>>=◌, ◌>>◌, refuse, transfer}
 use Rattle.spi_flash.specs.Wait.{first_wait, next_wait}
 use Rattle.spi_flash.specs.WaitLaw.{waiting, delayed_wait}
-use Rattle.spi_flash.specs.Machine.{more, tree, Simulates}
+use Rattle.spi_flash.proofs.Machine.{more, tree, Simulates}
 use Rattle.spi_flash.specs.declared.error.FlashError.{FlashError}
 use Rattle.spi_flash.specs.declared.wait.Wait.{Wait}
 use Rattle.spi_flash.proofs.Laws.{bind_assoc, then-assoc}

@@ -6,7 +6,8 @@ use mathlib.Core.Path.{◌≡◌, refl}
 use lib.Dec.{lit<}
 use Rattle.spi_flash.specs.declared.wait.Timings.{Timings}
 use Rattle.spi_flash.specs.WaitLaw.{wait_loop, waiting, delayed_wait}
-use Rattle.spi_flash.specs.Path.{delays, actions, Bounded, Ends}
+use Rattle.spi_flash.specs.Path.{delays, Bounded, Ends}
+use Rattle.spi_flash.proofs.Paths.{actions}
 use Rattle.spi_flash.proofs.Laws.{bounded-more, ends-eq, ends-ret, ends-bind, ends-then, ends-transfer}
 use Rattle.spi_flash.proofs.Replies.{byte}
 use Rattle.spi_flash.proofs.WaitActions.{delayed-actions}

@@ -5,7 +5,8 @@ use Prim.Native.Nat.{ℕ, ◌+◌, ◌≤◌}
 use native.Mathlib.Omega.{arith}
 use mathlib.Core.Bool.{Bool, true, false}
 use Rattle.qspi.specs.Choice.{pick}
-use Rattle.spi_flash.specs.Path.{delays, actions, Bounded}
+use Rattle.spi_flash.specs.Path.{delays, Bounded}
+use Rattle.spi_flash.proofs.Paths.{actions}
 use Rattle.spi_flash.proofs.Laws.{bounded-more, ended}
 use Rattle.flash_runs.specs.Weight.{Figures}
 use Rattle.flash_runs.proofs.Supplies.{Bounds}

@@ -8,7 +8,7 @@ use lib.Dec.{ltb, leb, eqb}
 use Rattle.std.specs.Prelude.{Err}
 use Rattle.qspi.proofs.Cases.{keeps-pick}
 use Rattle.spi_flash.specs.Wait.{first_wait, next_wait}
-use Rattle.spi_flash.specs.Machine.{Onward}
+use Rattle.spi_flash.proofs.Machine.{Onward}
 use Rattle.spi_flash.specs.declared.wait.Wait.{Wait}
 use Rattle.spi_nor.specs.Opcode.{timings_of}
 use Rattle.spi_nor.specs.Status.{busy_of, write_enabled_of, quad_enabled1_of, quad_enabled2_of, unprotected1_of, unprotected2_of}

@@ -14,7 +14,7 @@ use Rattle.qspi.specs.declared.transfer.Transfer.{Transfer}
 use Rattle.spi_flash.proofs.Laws.{then-assoc}
 use Rattle.spi_flash.specs.Loan.{Lent}
 use Rattle.spi_flash.specs.Prog.{Prog, ret, ask, ◌>>=◌, ◌>>◌, refuse}
-use Rattle.spi_flash.specs.Machine.{tree}
+use Rattle.spi_flash.proofs.Machine.{tree}
 use Rattle.spi_flash.specs.declared.loan.Takes.{Takes}
 use Rattle.qspi.proofs.Cases.{by_cases, keeps-pick}
 use Rattle.flash_runs.specs.Begins.{SameTaken}

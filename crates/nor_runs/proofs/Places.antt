@@ -2,7 +2,7 @@
 use mathlib.Core.Bool.{true}
 use mathlib.Core.Path.{◌≡◌}
 use Rattle.qspi.specs.Frame.{Outcome}
-use Rattle.spi_flash.specs.Machine.{Decision}
+use Rattle.spi_flash.proofs.Machine.{Decision}
 use Rattle.flash_runs.proofs.General as General
 use Rattle.flash_runs.proofs.General.{Parts, parts_of}
 use Rattle.flash_runs.proofs.Supplies as Supplies

@@ -15,7 +15,8 @@ use Rattle.qspi.specs.declared.transfer.Sink.{Sink}
 use Rattle.std.specs.Prelude.{if◌then◌else◌, Option, Some, None}
 use Rattle.spi_flash.specs.Prog.{Prog, ret, ◌>>=◌, ◌>>◌, refuse, transfer}
 use Rattle.qspi.specs.Bytes.{AllBytes, byte_of}
-use Rattle.spi_flash.specs.Path.{Answers, delays, Reaches, Ends, Never}
+use Rattle.spi_flash.specs.Path.{Answers, delays, Ends}
+use Rattle.spi_flash.proofs.Paths.{Reaches, Never}
 use Rattle.qspi.proofs.Cases.{by_cases}
 use Rattle.spi_flash.proofs.Laws.{ends-ret, ends-bind, ends-then, ends-eq, ends-transfer, ends-refuse, ends-guard, ends-reaches, never-left, never-right, never-then, never-refused}
 use Rattle.spi_flash.proofs.Loops.{ends-loop}

@@ -2,7 +2,8 @@
 use Prim.Native.Nat.{ℕ}
 use native.Mathlib.Omega.{arith}
 use mathlib.Core.List.{List}
-use Rattle.spi_flash.specs.Path.{delays, actions, Bounded, Ends}
+use Rattle.spi_flash.specs.Path.{delays, Bounded, Ends}
+use Rattle.spi_flash.proofs.Paths.{actions}
 use Rattle.spi_flash.proofs.Laws.{bounded-more, ends-eq}
 use Rattle.spi_flash.proofs.WaitActions.{prompt-actions}
 use Rattle.spi_nor.specs.Opcode.{timings_of}

@@ -6,7 +6,8 @@ use Rattle.qspi.specs.declared.transfer.Transfer.{Transfer}
 use Rattle.spi_flash.specs.declared.error.FlashError.{FlashError}
 use Rattle.std.specs.Prelude.{if◌then◌else◌}
 use Rattle.spi_flash.specs.Prog.{Prog, ret, fail, ◌>>=◌, ◌>>◌, refuse, transfer}
-use Rattle.spi_flash.specs.Path.{Past, back, End, going, done, failed, seen, Prefix, Giving, Gives}
+use Rattle.spi_flash.specs.Path.{Past, back, End, going, done, failed, Prefix}
+use Rattle.spi_flash.proofs.Paths.{seen, Giving, Gives}
 use Rattle.spi_flash.proofs.Laws.{every_bind, every-mono}
 
 module _ {X : Type 0} where

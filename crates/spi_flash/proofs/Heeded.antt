@@ -8,12 +8,13 @@ use Rattle.qspi.specs.Frame.{Outcome, first_of, exchange_of}
 use Rattle.qspi.specs.declared.bus.Reply.{Reply}
 use Rattle.qspi.specs.declared.frame.Frame.{Frame}
 use Rattle.spi_flash.specs.declared.loan.Takes.{Takes}
-use Rattle.spi_flash.specs.Loan.{Lent}
+use Rattle.spi_flash.specs.Loan.{Lent, lent_as}
 use Rattle.spi_flash.specs.Path.{Prefix}
 use Rattle.spi_flash.specs.Run.{Event, reply, call, Given, act, ended, failed, refused, Entry, Moved, entry, goes_on, fitting_then, Fitting, Answer}
-use Rattle.spi_flash.specs.Machine.{Decision, more, well, bad, Config, out, rest, lent_as, settle, moved, machine}
-use Rattle.spi_flash.specs.Seen.{Did, did, told_then, told, replies_of, unless_refused, accepted, events_of}
+use Rattle.spi_flash.proofs.Machine.{Decision, more, well, bad, Config, out, rest, settle, moved, machine}
+use Rattle.spi_flash.specs.Seen.{Did, did, told_then, told, replies_of, unless_refused, accepted}
 use Rattle.spi_flash.specs.OnBus.{BusProg, answers, stops, does, fills, performed}
+use Rattle.spi_flash.proofs.Performs.{events_of}
 use Rattle.spi_flash.proofs.Runs.{heard-view}
 
 -- ---- a call that has ended takes no more replies

@@ -1,6 +1,8 @@
 pub mod Table
 pub mod Bits
 pub mod Pieces
+pub mod Paths
+pub mod Machine
 pub mod Laws
 pub mod Giving
 pub mod Replies

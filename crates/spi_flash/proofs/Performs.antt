@@ -21,17 +21,23 @@ use Rattle.qspi.specs.declared.frame.Stage.{Stage}
 use Rattle.qspi.specs.declared.frame.Advanced.{Advanced}
 use Rattle.qspi.specs.declared.frame.Frame.{Frame}
 use Rattle.spi_flash.specs.declared.loan.Takes.{Takes}
-use Rattle.spi_flash.specs.Loan.{Lent, ready_of, ready_for}
+use Rattle.spi_flash.specs.Loan.{Lent, ready_of, ready_for, lent_as}
 use Rattle.spi_flash.specs.Prog.{Prog, ask}
 use Rattle.spi_flash.specs.Path.{Bounded}
 use Rattle.spi_flash.specs.Run.{Event, reply, call, Given, act, ended, failed, refused, Entry, Moved, entry, goes_on, Answer}
-use Rattle.spi_flash.specs.Machine.{Decision, more, well, bad, Config, out, lent_as, settle, moved, machine, tree, Onward, Simulates}
-use Rattle.spi_flash.specs.Seen.{Did, did, told_then, told, gives_of, replies_of, unless_refused, accepted, events_of, Taken, SameData, Undisturbed}
+use Rattle.spi_flash.proofs.Machine.{Decision, more, well, bad, Config, out, settle, moved, machine, tree, Onward, Simulates}
+use Rattle.spi_flash.specs.Seen.{Did, did, told_then, told, gives_of, replies_of, unless_refused, accepted, Taken, SameData, Undisturbed}
 use Rattle.spi_flash.specs.OnBus.{BusProg, answers, stops, does, fills, program_on_bus, performed}
 use Rattle.qspi.proofs.Cases.{by_cases}
 use Rattle.spi_flash.proofs.Unread.{none_first, none-later}
 use Rattle.spi_flash.proofs.Dataless.{data_uses, Agrees, agrees-same, agrees-none}
 use Rattle.spi_flash.proofs.OnBus.{false≢true, answer_of, concluded, behind, Proper, onward, Goes, Follows, starts, follows}
+
+-- ---- the events of some steps
+
+abbrev pub events_of : {C A : Type 0} → List (Entry C A) → List (Event C)
+events_of [] = []
+events_of (x ∷ xs) = x.event ∷ events_of xs
 
 -- ---- what an action shows
 

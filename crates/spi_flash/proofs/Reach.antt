@@ -21,7 +21,7 @@ use Rattle.spi_flash.specs.Loan.{Lent}
 use Rattle.spi_flash.specs.Prog.{Prog, ret, fail, ask}
 use Rattle.spi_flash.specs.Path.{Past, back, End, done, failed, Some, Fits, Answers}
 use Rattle.spi_flash.specs.Run.{Entry, goes_on, fitting_then, Fitting, ended_then, HasEnded, Answer, RealReplies, answering, Lending}
-use Rattle.spi_flash.specs.Machine.{Decision, more, well, bad, out, settle, machine, tree, Onward, Simulates, Trail, decided_trail, trail}
+use Rattle.spi_flash.proofs.Machine.{Decision, more, well, bad, out, settle, machine, tree, Onward, Simulates, Trail, decided_trail, trail}
 
 -- ---- the values of a path, to the call's end
 

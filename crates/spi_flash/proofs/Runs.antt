@@ -20,11 +20,12 @@ use Rattle.qspi.specs.declared.frame.Stage.{Stage}
 use Rattle.qspi.specs.declared.frame.Advanced.{Advanced}
 use Rattle.qspi.specs.declared.frame.Exchanged.{Exchanged}
 use Rattle.spi_flash.specs.declared.loan.Takes.{Takes}
-use Rattle.spi_flash.specs.Loan.{Lent, ready_for}
+use Rattle.spi_flash.specs.Loan.{Lent, ready_for, lent_as}
 use Rattle.spi_flash.specs.Prog.{Prog, ask}
-use Rattle.spi_flash.specs.Path.{Past, back, End, Every, asked, delays, actions, Bounded}
+use Rattle.spi_flash.specs.Path.{Past, back, End, Every, asked, delays, Bounded}
+use Rattle.spi_flash.proofs.Paths.{actions}
 use Rattle.spi_flash.specs.Run.{Event, reply, call, Entry, Moved, goes_on, delay_given, delay_asked, fitting_then, Fitting, ended_then, HasEnded}
-use Rattle.spi_flash.specs.Machine.{Decision, more, well, bad, Config, out, rest, lent_as, heard, settle, moved, machine, tree, Onward, Simulates, Trail, push, decided_trail, heard_trail, trail}
+use Rattle.spi_flash.proofs.Machine.{Decision, more, well, bad, Config, out, rest, heard, settle, moved, machine, tree, Onward, Simulates, Trail, push, decided_trail, heard_trail, trail}
 
 -- ---- one reply to a frame
 

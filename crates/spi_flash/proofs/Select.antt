@@ -9,9 +9,9 @@ use Rattle.qspi.specs.declared.transfer.Transfer.{Transfer}
 use Rattle.qspi.specs.declared.frame.Stage.{Stage}
 use Rattle.qspi.specs.declared.frame.Frame.{Frame}
 use Rattle.spi_flash.specs.declared.loan.Takes.{Takes}
-use Rattle.spi_flash.specs.Loan.{Lent}
+use Rattle.spi_flash.specs.Loan.{Lent, lent_as}
 use Rattle.spi_flash.specs.Run.{Event, reply, call, Moved, goes_on}
-use Rattle.spi_flash.specs.Machine.{Decision, more, well, bad, Config, out, lent_as, settle, moved, machine}
+use Rattle.spi_flash.proofs.Machine.{Decision, more, well, bad, Config, out, settle, moved, machine}
 use Rattle.spi_flash.specs.Seen.{select_after, high_then, EndsHigh}
 use Rattle.spi_flash.proofs.Runs.{Last, Begun, heard-view}
 

@@ -19,13 +19,13 @@ use Rattle.qspi.specs.declared.frame.Exchanged.{Exchanged}
 use Rattle.qspi.specs.declared.frame.Frame.{Frame}
 use Rattle.spi_flash.specs.declared.loan.Takes.{Takes}
 use Rattle.spi_flash.specs.declared.wait.Timings.{Timings}
-use Rattle.spi_flash.specs.Loan.{Lent}
+use Rattle.spi_flash.specs.Loan.{Lent, lent_as}
 use Rattle.spi_flash.specs.Number.{number_transfer}
 use Rattle.spi_flash.specs.Prog.{Prog, ask}
 use Rattle.spi_flash.specs.WaitLaw.{wait_loop, waiting, delayed_wait, prompt_wait}
 use Rattle.spi_flash.specs.Path.{Bounded}
 use Rattle.spi_flash.specs.Run.{Event, reply, call, Moved, goes_on}
-use Rattle.spi_flash.specs.Machine.{Decision, more, well, bad, Config, out, rest, lent_as, settle, moved, machine, tree, Onward, Simulates}
+use Rattle.spi_flash.proofs.Machine.{Decision, more, well, bad, Config, out, rest, settle, moved, machine, tree, Onward, Simulates}
 use Rattle.spi_flash.specs.Seen.{KeepsBuffer}
 use Rattle.spi_flash.proofs.Laws.{every-mono, bounded-more, bounded-ret, bounded-fail, bounded-bind, bounded-then, bounded-if, bounded-transfer}
 use Rattle.spi_flash.proofs.Runs.{heard-view}

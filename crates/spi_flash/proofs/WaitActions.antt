@@ -9,7 +9,8 @@ use Rattle.qspi.specs.declared.transfer.Body.{Body}
 use Rattle.qspi.specs.declared.transfer.Transfer.{Transfer}
 use Rattle.spi_flash.specs.declared.wait.Timings.{Timings}
 use Rattle.spi_flash.specs.Prog.{Prog, ret, fail, ask, ◌>>=◌, ◌>>◌}
-use Rattle.spi_flash.specs.Path.{Past, End, Every, asked, delays, actions, Bounded}
+use Rattle.spi_flash.specs.Path.{Past, End, Every, asked, delays, Bounded}
+use Rattle.spi_flash.proofs.Paths.{actions}
 use Rattle.spi_flash.specs.WaitLaw.{waiting, delayed_wait, prompt_wait, looks, look_weight, wait_step, OnlyPause, OnlyLook, Turn, looking, pausing, TakesTurns, WaitLaw}
 use Rattle.spi_flash.proofs.Laws.{every-mono, every-both, bounded-then, bounded-transfer}
 

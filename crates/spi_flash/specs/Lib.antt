@@ -14,7 +14,6 @@ pub mod Prog
 pub mod Path
 pub mod WaitLaw
 pub mod Run
-pub mod Machine
 pub mod Seen
 pub mod OnBus
 pub mod Rows

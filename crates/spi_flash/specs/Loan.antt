@@ -29,5 +29,9 @@ pub record Lent : Type 0 where
   pub buffer : List ℕ
   pub given : List ℕ
 
+-- what is lent, with this scratch and this buffer
+abbrev pub lent_as : List ℕ → List ℕ → Lent → Lent
+lent_as scratch buffer l = record { scratch = scratch; buffer = buffer; given = l.given }
+
 abbrev pub ready_for : Takes → Lent → Bool
 ready_for takes l = ready_of takes (length l.scratch) (length l.buffer) (length l.given)

@@ -52,10 +52,6 @@ unfoldable pub accepted : {C A : Type 0} → List (Entry C A) → List (Entry C 
 accepted [] = []
 accepted (x ∷ xs) = unless_refused x.given (x ∷ accepted xs) (accepted xs)
 
-abbrev pub events_of : {C A : Type 0} → List (Entry C A) → List (Event C)
-events_of [] = []
-events_of (x ∷ xs) = x.event ∷ events_of xs
-
 abbrev pub Taken : {A : Type 0} → Given A → Type 0 → Type 0
 Taken (act shown) P = P
 Taken (ended a) P = P

@@ -15,7 +15,7 @@ use Rattle.qspi.specs.declared.frame.Exchanged.{Exchanged}
 use Rattle.qspi.specs.declared.frame.Frame.{Frame}
 use Rattle.spi_flash.specs.Error.{error_number}
 use Rattle.spi_flash.specs.Loan.{Lent, ready_for}
-use Rattle.spi_flash.specs.Machine.{heard}
+use Rattle.spi_flash.proofs.Machine.{heard}
 use Rattle.spi_flash.specs.Run as Run
 use Rattle.spi_flash.specs.Shape.{Given, acts, ends, fails, refuses}
 use Rattle.spi_flash.specs.declared.error.FlashError.{FlashError}

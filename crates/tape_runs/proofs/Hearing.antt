@@ -7,8 +7,7 @@ use Rattle.qspi.proofs.Cases.{by_cases}
 use Rattle.qspi.specs.Frame.{exchange_of}
 use Rattle.qspi.specs.declared.frame.Exchanged.{Exchanged}
 use Rattle.spi_flash.specs.Settling as Settling
-use Rattle.spi_flash.specs.Loan.{Lent, ready_for, exchange_for}
-use Rattle.spi_flash.specs.Machine.{lent_as}
+use Rattle.spi_flash.specs.Loan.{Lent, ready_for, exchange_for, lent_as}
 use Rattle.spi_flash.specs.declared.loan.Takes.{Takes}
 use Rattle.flash_runs.proofs.General as General
 use Rattle.flash_runs.proofs.General.{Then, Parts, Job, Running, idle, busy, Flash, settled, exchanged, answer_at}

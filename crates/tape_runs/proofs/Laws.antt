@@ -7,7 +7,7 @@ use Rattle.qspi.specs.Bus.{on_bus}
 use Rattle.qspi.specs.declared.bus.Reply.{Reply}
 use Rattle.qspi.specs.declared.frame.Exchanged.{Exchanged}
 use Rattle.spi_flash.specs.Loan.{Lent}
-use Rattle.spi_flash.specs.Machine.{heard}
+use Rattle.spi_flash.proofs.Machine.{heard}
 use Rattle.spi_flash.specs.Run as Run
 use Rattle.spi_flash.specs.Run.{fitting_then}
 use Rattle.spi_flash.specs.Shape.{Given, acts, ends, fails, refuses}

@@ -1,8 +1,7 @@
 -- A driver over a tape, as the statements on replays see it.
 use Rattle.std.specs.Prelude.{ℕ, List, length}
 use Rattle.qspi.specs.declared.frame.Frame.{Frame}
-use Rattle.spi_flash.specs.Loan.{Lent}
-use Rattle.spi_flash.specs.Machine.{lent_as}
+use Rattle.spi_flash.specs.Loan.{Lent, lent_as}
 use Rattle.spi_flash.specs.Run.{System}
 use Rattle.spi_flash.specs.Shape.{Running, idle, busy, Given}
 use Rattle.spi_flash.specs.declared.loan.Takes.{Takes}

@@ -11,7 +11,7 @@ use Rattle.qspi.specs.declared.frame.Frame.{Frame}
 use Rattle.qspi.specs.declared.frame.Exchanged.{Exchanged}
 use Rattle.spi_flash.specs.declared.error.FlashError.{FlashError}
 use Rattle.spi_flash.specs.declared.loan.Takes.{Takes}
-use Rattle.spi_flash.specs.Loan.{Lent, ready_for}
+use Rattle.spi_flash.specs.Loan.{Lent, ready_for, lent_as}
 use Rattle.spi_flash.specs.Prog.{Prog, ret, fail, ask}
 use Rattle.spi_flash.specs.Path.{Past, back, End, going, done, failed}
 use Rattle.spi_flash.specs.Run.{Event, reply, call, act, Moved, System}
@@ -29,9 +29,6 @@ pub data Config (S : Type 0) : Type 0 where
   rest : Config S
 
 -- ---- one step
-
-abbrev pub lent_as : List ℕ → List ℕ → Lent → Lent
-lent_as scratch buffer l = record { scratch = scratch; buffer = buffer; given = l.given }
 
 -- what a reply does to the frame that is out; lent bytes that are not fit for a step count as a reply that is not
 abbrev pub heard : Takes → Frame → Reply → List ℕ → Lent → Exchanged
