@@ -219,7 +219,7 @@ module _ {F C S A : Type 0} {driver : Driver F C S A} (known : Known driver) whe
 
   -- the Rust's struct is what the driver holds, or the call makes one
   held : (x : Sort S) (flash : F) (c : C) (l : Lent) → sort_at driver c l ≡ x → Ready driver x flash l →
-      program_at driver (driver.setup flash) c l ≡ program_at driver (holding driver.blank (driver_of driver flash)) c l
+      program_at driver (driver.setup flash) c l ≡ program_at driver (holding (driver.setup driver.fresh) (driver_of driver flash)) c l
   held (constructs fresh) flash c l e h =
       let s = driver.setup flash in
       let b = length l.buffer in

@@ -52,9 +52,8 @@ pub record Driver (F C S A : Type 0) : Type 0 where
   -- what the struct holds, and whether there is one: the last construction begun has succeeded
   pub setup : F → S
   pub built : F → Bool
-  -- a driver before any construction, and what it holds
+  -- a driver before any construction
   pub fresh : F
-  pub blank : S
   -- the part of the caller's buffer that has been filled (docs/SPECIFICATION.md, "Lent memory")
   pub delivered : F → List ℕ → List ℕ
   pub sort : C → ℕ → ℕ → Sort S

@@ -38,8 +38,8 @@ driver_after (uses takes) before left = before
 
 -- a construction does not look at what was there before
 abbrev pub holding : {S : Type 0} → S → Option S → S
-holding blank none = blank
-holding blank (some held) = held
+holding fresh none = fresh
+holding fresh (some held) = held
 
 pub record Turn (C : Type 0) : Type 0 where
   pub call : C
@@ -129,10 +129,10 @@ module _ {F C S A : Type 0} (driver : Driver F C S A) where
   turn_gives flash x = gives_of (turn_does flash x)
 
   abbrev pub rust_turn : Option S → Turn C → List (Did (Left S A))
-  rust_turn before x = rust_call (holding driver.blank before) x.call x.lent x.events
+  rust_turn before x = rust_call (holding (driver.setup driver.fresh) before) x.call x.lent x.events
 
   abbrev pub heeding_turn : Option S → Turn C → List (Did (Left S A))
-  heeding_turn before x = rust_heeding (holding driver.blank before) x.call x.lent x.events
+  heeding_turn before x = rust_heeding (holding (driver.setup driver.fresh) before) x.call x.lent x.events
 
   -- of turns that come to this
   unfoldable pub rust_session : (Option S → Turn C → List (Did (Left S A))) → Option S → List (Turn C) → List (List (Did (Left S A)))

@@ -36,7 +36,6 @@ module _ {F C S A : Type 0} (driver : Driver F C S A) where
         setup = sham.setup;
         built = sham.built;
         fresh = sham.fresh;
-        blank = driver.blank;
         delivered = sham.delivered;
         sort = driver.sort;
         in_bounds = driver.in_bounds;

@@ -205,13 +205,13 @@ module _ (flash : SpiNandFlash) (x : Turn Call) (h : Steady nand_driver flash x.
   rust = heeding_turn rust_driver before x
 
   small-turn : large_page x.call ≡ false → turn_gives nand_driver flash x ≡ gives_of rust
-  small-turn small = turn-gives known flash x h ∙ ap gives_of (small-heeding (holding nand_driver.blank before) x.call x.lent x.events small)
+  small-turn small = turn-gives known flash x h ∙ ap gives_of (small-heeding (holding (nand_driver.setup nand_driver.fresh) before) x.call x.lent x.events small)
 
   turn-left : (b : Bool) → large_page x.call ≡ b → left_by (told (turn_steps nand_driver flash x)) ≡ left_by rust
   turn-left true big =
       left-as (turn_steps nand_driver flash x) (refused_heeding x.lent x.events) (large-gives flash x.call x.lent x.events h big)
       ∙ (refused-none x.lent).heeded Takes.Nothing x.events x.lent.buffer
-      ∙ sym ((rust-none x.lent.given (holding nand_driver.blank before) x.call (length x.lent.buffer) (length x.lent.given) big).heeded (takes_at nand_driver x.call x.lent) x.events x.lent.buffer)
+      ∙ sym ((rust-none x.lent.given (holding (nand_driver.setup nand_driver.fresh) before) x.call (length x.lent.buffer) (length x.lent.given) big).heeded (takes_at nand_driver x.call x.lent) x.events x.lent.buffer)
   turn-left false small = left-as (turn_steps nand_driver flash x) rust (small-turn small)
 
   turn-driver : driver_of nand_driver (turn_after nand_driver flash x) ≡ driver_after (sort_at nand_driver x.call x.lent) before (left_by rust)

@@ -70,7 +70,6 @@ nand_driver =
       setup = λ flash. flash.setup;
       built = λ flash. flash.built;
       fresh = not_built;
-      blank = not_built.setup;
       delivered = delivered_part;
       sort = sort_of;
       in_bounds = nand_calls.in_bounds;

@@ -58,7 +58,6 @@ nor_driver = record {
   setup = λ flash. flash.setup;
   built = λ flash. flash.built;
   fresh = not_built;
-  blank = not_built.setup;
   delivered = delivered_part;
   sort = sort_of;
   in_bounds = nor_calls.in_bounds;
