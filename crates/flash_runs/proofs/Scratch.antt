@@ -32,7 +32,7 @@ use Rattle.spi_flash.proofs.Machine.{Decision, more, well, bad, Config, out, res
 use Rattle.spi_flash.specs.Prog.{Prog, ask}
 use Rattle.spi_flash.proofs.OnBus.{false≢true}
 use Rattle.spi_flash.proofs.Performs.{first-shown, long-scratch}
-use Rattle.flash_runs.specs.Watch.{BusFrame, selected, commanded, frame_after}
+use Rattle.flash_runs.specs.Watch.{BusFrame, selected, commanded, wrote_in, frame_after}
 use Rattle.flash_runs.specs.Scratch.{with_command, filler, marker, Payloads, callers, stamps, next_payloads, PutsPayload, Puts, frame_then, payloads_after, payloads_then, StepPuts, PutsOver}
 use Rattle.flash_runs.proofs.Payloads.{PaysBy, Pays}
 
@@ -75,6 +75,15 @@ module _ (all : Payloads) {A : Type 0} (k : ℕ → Prog A) where
   pays-payload (stamps (marker ∷ xs)) Payload.Marker given s long h = ((refl, rw (le-leb scratch_least (length s) long)), h)
 
   -- ---- the frame on the bus while an action is out
+
+  command-written : (c : Declared.Command) → wrote_in selected (command_bytes c) ≡ commanded (command_bytes c)
+  command-written (Declared.Command.Opcode opcode) = refl
+  command-written (Declared.Command.Byte opcode byte) = refl
+  command-written (Declared.Command.RegisterValue opcode register value) = refl
+  command-written (Declared.Command.Address opcode address) = refl
+  command-written (Declared.Command.Column opcode column) = refl
+  command-written (Declared.Command.ColumnDummy opcode column) = refl
+  command-written (Declared.Command.FourDummies opcode) = refl
 
   -- a command of its own is behind no quad call
   abbrev CommandedAt : Declared.Command → Body → BusFrame → Type 0
@@ -124,9 +133,9 @@ module _ (all : Payloads) {A : Type 0} (k : ℕ → Prog A) where
     after-start : (t : Transfer) (o : Outcome) → FramedAt Stage.Start t frame → Pays all p (ask t k) → PutsBy (moved_on t (next_stage t Stage.Start) o)
     after-start Transfer.Raise o f h = pays-on p o h
     after-start (Transfer.Pause us) o f h = pays-on p o h
-    after-start (Transfer.Framed c Body.None) o f h = rw f (puts-command c s long, record { framed = refl; pays = h })
-    after-start (Transfer.Framed c (Body.Read n sink)) o f h = rw f (puts-command c s long, record { framed = refl; pays = h })
-    after-start (Transfer.Framed c (Body.Write payload)) o f h = rw f (puts-command c s long, record { framed = refl; pays = h })
+    after-start (Transfer.Framed c Body.None) o f h = rw f (puts-command c s long, record { framed = command-written c; pays = h })
+    after-start (Transfer.Framed c (Body.Read n sink)) o f h = rw f (puts-command c s long, record { framed = command-written c; pays = h })
+    after-start (Transfer.Framed c (Body.Write payload)) o f h = rw f (puts-command c s long, record { framed = command-written c; pays = h })
     after-start (Transfer.Framed c (Body.QuadRead tclqv margin n sink)) o f h = rw f (puts-command c s long, record { framed = tt; pays = h })
     after-start (Transfer.Framed c (Body.QuadWrite payload)) o f h =
         let put = pays-payload p payload given (with_command (command_bytes c) s) (rw (length-sets s 0 (command_bytes c)) long) h in

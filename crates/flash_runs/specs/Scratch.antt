@@ -9,7 +9,7 @@ use Rattle.spi_flash.specs.Loan.{Lent}
 use Rattle.spi_flash.specs.Run.{Given, act, ended, Entry}
 use Rattle.spi_flash.specs.Seen.{lent_to}
 use Rattle.spi_flash.specs.declared.loan.Takes.{Takes}
-use Rattle.flash_runs.specs.Watch.{BusFrame, closed, selected, commanded, frame_after}
+use Rattle.flash_runs.specs.Watch.{BusFrame, selected, commanded, frame_after}
 
 -- a command stands at the start
 abbrev pub with_command : List ℕ → List ℕ → List ℕ
@@ -56,11 +56,11 @@ PutsPayload (stamps (x ∷ xs)) bytes given before after = PutsStamp x bytes bef
 
 -- ---- one step
 
--- the first write since select went low is the command; nothing is written while select is high
+-- the first write since select went low is the command, and at most one more follows; nothing is written while select is high
 abbrev pub PutsWrite : BusFrame → Payloads → (bytes given before after : List ℕ) → Type 0
-PutsWrite closed payloads bytes given before after = ⊥
 PutsWrite selected payloads bytes given before after = after ≡ with_command bytes before
 PutsWrite (commanded command) payloads bytes given before after = PutsPayload payloads bytes given before after
+PutsWrite _ payloads bytes given before after = ⊥
 
 -- a quad call has its command with it: nothing else is written in its frame
 abbrev pub Alone : BusFrame → Type 0 → Type 0

@@ -37,29 +37,33 @@ module _ {Z : Type 0} (w : Watcher Z) where
 
 -- ---- the frame on the bus
 
--- select is high; it is low and nothing was written yet; or the first write since it went low
+-- select is high; it is low and nothing went over the bus yet; or just this write since it went low; or more than one action did
 pub data BusFrame : Type 0 where
-  closed selected : BusFrame
+  closed selected used : BusFrame
   commanded : List ℕ → BusFrame
 
 abbrev pub wrote_in : BusFrame → List ℕ → BusFrame
 wrote_in closed bytes = closed
-wrote_in selected bytes = commanded bytes
-wrote_in (commanded command) bytes = commanded command
+wrote_in selected [] = selected
+wrote_in selected (b ∷ bytes) = commanded (b ∷ bytes)
+wrote_in _ bytes = used
+
+abbrev pub used_in : BusFrame → BusFrame
+used_in closed = closed
+used_in _ = used
 
 abbrev pub frame_after : Shown → BusFrame → BusFrame
 frame_after low frame = selected
 frame_after high frame = closed
 frame_after (write bytes) frame = wrote_in frame bytes
-frame_after (read n) frame = frame
-frame_after (quad_read command tclqv margin n) frame = frame
-frame_after (quad_write command payload) frame = frame
+frame_after (read n) frame = used_in frame
+frame_after (quad_read command tclqv margin n) frame = used_in frame
+frame_after (quad_write command payload) frame = used_in frame
 frame_after (delay us) frame = frame
 
 abbrev pub command_in : BusFrame → List ℕ
-command_in closed = []
-command_in selected = []
 command_in (commanded command) = command
+command_in _ = []
 
 -- ---- a good end
 

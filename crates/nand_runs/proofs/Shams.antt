@@ -54,6 +54,12 @@ lawful =
         in_order = refl;
         whole = λ e. record { loads = refl; verdicts = refl; correctable = (refl, (refl, tt)); filled = refl; least = omega arith; most = omega arith };
       };
+      by-quad = record {
+        loads = record { rest = []; whole = refl };
+        reads = refl;
+        in_order = refl;
+        whole = λ e. record { loads = refl; verdicts = refl; correctable = (refl, (refl, tt)); filled = refl; least = omega arith; most = omega arith };
+      };
       looked-again = record {
         loads = record { rest = []; whole = refl };
         reads = refl;
@@ -107,16 +113,29 @@ ruled = record {
   no-register = λ h. true≢false (ap (λ xs. eqb (length xs) 1) h.reads);
   long-register = λ h. true≢false (ap (λ xs. eqb (length xs) 1) h.reads);
   other-register = λ h. true≢false (ap (λ xs. eqb (length xs) 1) h.reads);
+  other-opcode = λ h. true≢false (ap (λ xs. eqb (length xs) 1) h.reads);
   second-command = λ h. true≢false (ap (λ xs. eqb (length xs) 1) h.reads);
   unselected-look = λ h. true≢false (ap (λ xs. eqb (length xs) 1) h.reads);
   look-behind = λ h. true≢false (ap (λ xs. eqb (length xs) 1) h.reads);
   overwritten-cache = λ h. true≢false (ap (λ xs. eqb (length xs) 1) h.reads);
   quad-overwritten-cache = λ h. true≢false (ap (λ xs. eqb (length xs) 1) h.reads);
+  cache-overwritten-in-part = λ h. true≢false (ap (λ xs. eqb (length xs) 1) h.reads);
+  cache-overwritten-late = λ h. true≢false (ap (λ xs. eqb (length xs) 1) h.reads);
+  reset-between = λ h. true≢false (ap (λ xs. eqb (length xs) 1) h.reads);
   programmed-cache = λ h. true≢false (ap (λ xs. eqb (length xs) 1) h.reads);
+  long-program = λ h. true≢false (ap (λ xs. eqb (length xs) 1) h.reads);
+  long-load = λ h. true≢false (ap (λ xs. eqb (length xs) 1) h.reads);
   uncorrectable-delivered = λ h. true≢false (h.whole tt).correctable.0;
   second-opinion = λ h. true≢false (h.whole tt).correctable.0;
   other-column = λ h. true≢false (ap (λ xs. eqb (first_byte xs).column 0) h.reads);
   short-column = λ h. true≢false (ap (λ n. eqb n 1) (h.whole tt).filled);
+  no-dummy = λ h. true≢false (ap (λ n. eqb n 1) (h.whole tt).filled);
+  two-dummies = λ h. true≢false (ap (λ n. eqb n 1) (h.whole tt).filled);
+  read-behind = λ h. true≢false (ap (λ xs. eqb (length xs) 1) h.reads);
+  rewritten-column = λ h. true≢false (ap (λ xs. eqb (length xs) 1) h.reads);
+  quad-behind = λ h. true≢false (ap (λ xs. eqb (length xs) 1) h.reads);
+  unselected-quad = λ h. true≢false (ap (λ xs. eqb (length xs) 1) h.reads);
+  long-quad = λ h. true≢false (ap (λ xs. eqb (length xs) 1) h.reads);
   overtaken-byte = λ h. true≢false (sym h.in_order);
   no-delay = λ h. omega (arith, (h.whole tt).least);
   long-delay = λ h. omega (arith, (h.whole tt).most);

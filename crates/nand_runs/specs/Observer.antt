@@ -1,12 +1,12 @@
 -- What is seen of the NAND from outside: a watcher over the bytes of the actions given out and of the replies, which knows nothing of the
 -- driver (docs/SPECIFICATION.md, "Reads on the bus").
-use Rattle.std.specs.Prelude.{ℕ, suc, ◌/◌, ◌%◌, ◌^◌, Bool, true, false, ◌&&◌, ◌==◌, if◌then◌else◌, List, [], ◌∷◌, ◌++◌, length, take, leb}
+use Rattle.std.specs.Prelude.{ℕ, suc, ◌/◌, ◌%◌, ◌^◌, Bool, true, false, ◌&&◌, ◌||◌, ◌==◌, if◌then◌else◌, List, [], ◌∷◌, ◌++◌, length, take}
 use Rattle.std.proofs.Math.Option.{Option, none, some}
 use Rattle.qspi.specs.Address.{read_from}
 use Rattle.qspi.specs.Shown.{Shown, write, read, quad_read, quad_write}
 use Rattle.spi_flash.specs.Bits.{is_clear}
 use Rattle.flash_runs.specs.Watch.{Watcher, BusFrame, closed, selected, frame_after, command_in}
-use Rattle.spi_nand.specs.Opcode.{GET-FEATURE, REG-STATUS, PAGE-READ, LOAD-PROGRAM-DATA, PROGRAM-EXECUTE, READ-CACHE}
+use Rattle.spi_nand.specs.Opcode.{RESET, GET-FEATURE, REG-STATUS, PAGE-READ, LOAD-PROGRAM-DATA, PROGRAM-EXECUTE, READ-CACHE}
 
 -- ---- what a command is, by its bytes
 
@@ -20,12 +20,16 @@ abbrev pub asks_status : List ℕ → Bool
 asks_status (opcode ∷ register ∷ []) = opcode == GET-FEATURE && register == REG-STATUS
 asks_status _ = false
 
--- 03 with two column bytes: it reads the cache, and no register
+-- 03 with two column bytes and a dummy byte, and nothing more (datasheet, Read Data): it reads the cache, and no register
 abbrev pub reads_cache : List ℕ → Bool
 reads_cache [] = false
-reads_cache (opcode ∷ address) = opcode == READ-CACHE && leb 2 (length address)
+reads_cache (opcode ∷ address) = opcode == READ-CACHE && length address == 3
 
--- the two bytes behind the opcode, also of a quad read's, whose opcode is the caller's own
+-- a quad read's opcode is the caller's own, and its dummies are no bytes of the command
+abbrev pub reads_cache_quad : List ℕ → Bool
+reads_cache_quad command = length command == 3
+
+-- the two bytes behind the opcode
 abbrev pub column_of : List ℕ → ℕ
 column_of [] = 0
 column_of (opcode ∷ address) = read_from 0 (take 2 address)
@@ -90,21 +94,26 @@ load_by shown s = page_in PAGE-READ s.frame (written_by shown)
 abbrev pub program_by : Shown → Sight → Option ℕ
 program_by shown s = page_in PROGRAM-EXECUTE s.frame (written_by shown)
 
--- the caller's data go to the cache: by 02, or by a quad write, whose opcode is the caller's own
-abbrev pub loads_data : List ℕ → Bool
-loads_data [] = false
-loads_data (opcode ∷ address) = opcode == LOAD-PROGRAM-DATA
+-- datasheet, Random Load Program Data: as 02, beside what the cache has
+abbrev pub RANDOM-LOAD-DATA : ℕ
+RANDOM-LOAD-DATA = 0x84
 
+-- the cache may change: data go to it, by 02 or 84; the part is reset; a program or a load begins, whatever address bytes it has
+abbrev pub changes_cache : List ℕ → Bool
+changes_cache [] = false
+changes_cache (opcode ∷ rest) =
+    opcode == LOAD-PROGRAM-DATA || opcode == RANDOM-LOAD-DATA || opcode == RESET || opcode == PROGRAM-EXECUTE || opcode == PAGE-READ
+
+-- by a frame's first write, or by a quad write, whose opcode is the caller's own
 abbrev pub writes_cache : Shown → BusFrame → Bool
-writes_cache (write bytes) selected = loads_data bytes
+writes_cache (write bytes) selected = changes_cache bytes
 writes_cache (quad_write command payload) frame = true
 writes_cache _ _ = false
 
--- with a load its wait begins; behind a program, and once data have gone to it, the cache holds no page that was loaded
-abbrev pub last_load : (loaded programmed : Option ℕ) → (written : Bool) → Load → Load
-last_load (some page) _ written load = waiting page
-last_load none (some page) written load = unloaded
-last_load none none written load = if written then unloaded else load
+-- with a load its wait begins; behind any other change the cache holds no page that was loaded
+abbrev pub last_load : (loaded : Option ℕ) → (changed : Bool) → Load → Load
+last_load (some page) changed load = waiting page
+last_load none changed load = if changed then unloaded else load
 
 abbrev pub with_page : Option ℕ → List ℕ → List ℕ
 with_page none pages = pages
@@ -113,9 +122,14 @@ with_page (some page) pages = pages ++ page ∷ []
 abbrev pub read_awaits : List ℕ → Load → Awaited
 read_awaits command load = if asks_status command then status else if reads_cache command then cache (column_of command) load else other
 
+-- a quad read brings its command with it, as the first in its frame
+abbrev pub quad_awaits : BusFrame → List ℕ → Load → Awaited
+quad_awaits selected command load = if reads_cache_quad command then cache (column_of command) load else other
+quad_awaits _ command load = other
+
 abbrev pub awaited_by : Shown → Sight → Awaited
 awaited_by (read n) s = read_awaits (command_in s.frame) s.load
-awaited_by (quad_read command tclqv margin n) s = cache (column_of command) s.load
+awaited_by (quad_read command tclqv margin n) s = quad_awaits s.frame command s.load
 awaited_by _ s = other
 
 abbrev pub no_cache : Awaited → Bool
@@ -127,7 +141,7 @@ given_out shown s =
     record {
       frame = frame_after shown s.frame;
       awaited = awaited_by shown s;
-      load = last_load (load_by shown s) (program_by shown s) (writes_cache shown s.frame) s.load;
+      load = last_load (load_by shown s) (writes_cache shown s.frame) s.load;
       loads = with_page (load_by shown s) s.loads;
       verdicts = s.verdicts;
       reads = s.reads;

@@ -2,7 +2,7 @@
 -- W25N01GV: the last byte of page 0 and the first of page 1. `ReadSeen` allows the run of a true driver, and none of the shams. Each
 -- lawful run beside a sham differs from it in one thing, so that every part of the observer is needed to tell them apart.
 use Rattle.std.specs.Prelude.{ℕ, Bool, true, false, ◌≡◌, ◌==◌, if◌then◌else◌, List, [], ◌∷◌, ◌++◌}
-use Rattle.qspi.specs.Shown.{Shown, low, high, write, read, quad_write, delay}
+use Rattle.qspi.specs.Shown.{Shown, low, high, write, read, quad_read, quad_write, delay}
 use Rattle.qspi.specs.declared.bus.Reply.{Reply}
 use Rattle.spi_flash.specs.Loan.{Lent}
 use Rattle.spi_flash.specs.Run.{Event, reply, call, Given, act, ended, refused, Entry, Moved}
@@ -10,13 +10,13 @@ use Rattle.spi_flash.specs.declared.error.FlashError.{FlashError}
 use Rattle.flash_runs.specs.Driver.{leaving, Driver}
 use Rattle.flash_runs.specs.Shams.{in_place}
 use Rattle.spi_nand.specs.Config.{W25N01GV, single_config}
-use Rattle.spi_nand.specs.Opcode.{GET-FEATURE, REG-STATUS, REG-CONFIGURATION, PAGE-READ, READ-CACHE, LOAD-PROGRAM-DATA, QUAD-LOAD-PROGRAM-DATA, PROGRAM-EXECUTE}
+use Rattle.spi_nand.specs.Opcode.{RESET, READ-ID, GET-FEATURE, REG-STATUS, REG-CONFIGURATION, PAGE-READ, READ-CACHE, QUAD-READ-CACHE, LOAD-PROGRAM-DATA, QUAD-LOAD-PROGRAM-DATA, PROGRAM-EXECUTE}
 use Rattle.spi_nand.specs.declared.answer.Answer.{Answer}
 use Rattle.spi_nand.specs.declared.call.Call.{Call}
 use Rattle.spi_nand.specs.declared.setup.Setup.{Setup}
 use Rattle.nand_driver.specs.Call.{fresh_setup}
 use Rattle.nand_runs.specs.Chip.{Chip, FromChip, DeliversTheChip}
-use Rattle.nand_runs.specs.Observer.{unseen}
+use Rattle.nand_runs.specs.Observer.{RANDOM-LOAD-DATA, unseen}
 use Rattle.nand_runs.specs.Program.{Left}
 use Rattle.nand_runs.specs.Promises.{ReadsAsAsked}
 use Rattle.nand_runs.specs.ReadSeen.{ReadSeen}
@@ -114,6 +114,20 @@ page_1 = loaded 1 0 ++ first_byte
 abbrev pub true_run : List Seen
 true_run = claimed (page_0 ++ page_1)
 
+-- page 0 copied otherwise
+abbrev pub copied_by : List Exchange → List Seen
+copied_by own = claimed (loaded 0 0 ++ own ++ page_1)
+
+abbrev pub in_frame : List Exchange → List Exchange
+in_frame own = done low ∷ (own ++ done high ∷ [])
+
+abbrev pub got_by_quad : List ℕ → Exchange
+got_by_quad command = record { shown = quad_read command 8 0 1; kind = Reply.Data; bytes = 161 ∷ [] }
+
+-- by four lines
+abbrev pub by_quad : List Seen
+by_quad = copied_by (in_frame (got_by_quad (QUAD-READ-CACHE ∷ 7 ∷ 255 ∷ []) ∷ []))
+
 -- looks behind a verdict mean nothing: neither a part that is busy again, nor other bits 5 and 4
 abbrev pub looked_again : List Seen
 looked_again = claimed (loaded 0 0 ++ status 33 ++ status 32 ++ last_byte ++ loaded 1 0 ++ status 1 ++ first_byte)
@@ -138,15 +152,31 @@ unselected_data = before_copy (done (write (LOAD-PROGRAM-DATA ∷ 0 ∷ 0 ∷ []
 
 -- ---- shams
 
--- data sent to the cache between a page's verdict and its copy, by one line or four; a program there
+-- between a page's verdict and its copy: data sent to the cache, by one line or four, in part, or behind an empty write; a reset; a program,
+-- and a program and a load with a byte too many
 abbrev pub overwritten : List Seen
 overwritten = before_copy (command (LOAD-PROGRAM-DATA ∷ 0 ∷ 0 ∷ []))
 
 abbrev pub quad_overwritten : List Seen
 quad_overwritten = before_copy (done low ∷ done (quad_write (QUAD-LOAD-PROGRAM-DATA ∷ 0 ∷ 0 ∷ []) (161 ∷ [])) ∷ done high ∷ [])
 
+abbrev pub overwritten_in_part : List Seen
+overwritten_in_part = before_copy (command (RANDOM-LOAD-DATA ∷ 0 ∷ 0 ∷ []))
+
+abbrev pub overwritten_late : List Seen
+overwritten_late = before_copy (done low ∷ done (write []) ∷ done (write (LOAD-PROGRAM-DATA ∷ 0 ∷ 0 ∷ [])) ∷ done high ∷ [])
+
+abbrev pub reset_between : List Seen
+reset_between = before_copy (command (RESET ∷ []))
+
 abbrev pub programmed_between : List Seen
 programmed_between = before_copy programmed
+
+abbrev pub long_program : List Seen
+long_program = before_copy (command (PROGRAM-EXECUTE ∷ 0 ∷ 0 ∷ 0 ∷ 0 ∷ []))
+
+abbrev pub long_load : List Seen
+long_load = before_copy (command (PAGE-READ ∷ 0 ∷ 0 ∷ 0 ∷ 1 ∷ []))
 
 -- success without traffic
 abbrev pub no_traffic : List Seen
@@ -195,8 +225,8 @@ before_verdict = page_0_behind (status 0)
 abbrev pub busy_part : List Seen
 busy_part = page_0_behind (status 1 ++ status 0)
 
--- a verdict asked by 0F alone, by a byte too many, or of another register; in the second write of its frame; while select is high, before
--- it was low and behind
+-- a verdict asked by 0F alone, by a byte too many, of another register, or by another opcode (the id's first byte); in the second write of
+-- its frame; while select is high, before it was low and behind
 abbrev pub verdict_by : List Exchange → List Seen
 verdict_by own = page_0_behind (status 0 ++ own)
 
@@ -208,6 +238,9 @@ long_register = verdict_by (asked (GET-FEATURE ∷ REG-STATUS ∷ 0 ∷ []) (0 �
 
 abbrev pub other_register : List Seen
 other_register = verdict_by (asked (GET-FEATURE ∷ REG-CONFIGURATION ∷ []) (0 ∷ []) 1)
+
+abbrev pub other_opcode : List Seen
+other_opcode = verdict_by (asked (READ-ID ∷ REG-STATUS ∷ []) (0 ∷ []) 1)
 
 abbrev pub second_command : List Seen
 second_command = verdict_by (done low ∷ done (write (GET-FEATURE ∷ REG-CONFIGURATION ∷ [])) ∷ done (write (GET-FEATURE ∷ REG-STATUS ∷ [])) ∷ got (0 ∷ []) 1 ∷ done high ∷ [])
@@ -231,6 +264,31 @@ other_column = claimed (loaded 0 0 ++ first_byte ++ page_1)
 
 abbrev pub short_column : List Seen
 short_column = claimed (page_0 ++ loaded 1 0 ++ asked (READ-CACHE ∷ 0 ∷ []) (178 ∷ []) 1)
+
+-- a copy asked for without the dummy byte, or with two; behind another read, or another write, in its frame, where the part goes on with
+-- the first
+abbrev pub no_dummy : List Seen
+no_dummy = copied_by (asked (READ-CACHE ∷ 7 ∷ 255 ∷ []) (161 ∷ []) 1)
+
+abbrev pub two_dummies : List Seen
+two_dummies = copied_by (asked (READ-CACHE ∷ 7 ∷ 255 ∷ 0 ∷ 0 ∷ []) (161 ∷ []) 1)
+
+abbrev pub read_behind : List Seen
+read_behind = copied_by (in_frame (done (write (READ-CACHE ∷ 7 ∷ 255 ∷ 0 ∷ [])) ∷ done (read 5) ∷ got (161 ∷ []) 1 ∷ []))
+
+abbrev pub rewritten_column : List Seen
+rewritten_column =
+    copied_by (in_frame (done (write (READ-CACHE ∷ 7 ∷ 255 ∷ 0 ∷ [])) ∷ done (write (READ-CACHE ∷ 0 ∷ 0 ∷ 0 ∷ [])) ∷ got (161 ∷ []) 1 ∷ []))
+
+-- a quad read behind a write of its frame; while select is high; with a byte too many
+abbrev pub quad_behind : List Seen
+quad_behind = copied_by (in_frame (done (write (READ-ID ∷ [])) ∷ got_by_quad (QUAD-READ-CACHE ∷ 7 ∷ 255 ∷ []) ∷ []))
+
+abbrev pub unselected_quad : List Seen
+unselected_quad = copied_by (got_by_quad (QUAD-READ-CACHE ∷ 7 ∷ 255 ∷ []) ∷ [])
+
+abbrev pub long_quad : List Seen
+long_quad = copied_by (in_frame (got_by_quad (QUAD-READ-CACHE ∷ 7 ∷ 255 ∷ 0 ∷ []) ∷ []))
 
 -- the next page loaded between the asking for a byte and its coming, by a call begun meanwhile
 abbrev pub overtaken : List Seen
@@ -298,6 +356,7 @@ Ruled xs = Allowed xs → ⊥
 
 pub record LawfulRuns : Type 0 where
   pub true-run : Allowed true_run
+  pub by-quad : Allowed by_quad
   pub looked-again : Allowed looked_again
   pub looked-before : Allowed looked_before
   pub wait-is-no-verdict : Allowed wait_is_no_verdict
@@ -320,16 +379,29 @@ pub record ShamRuns : Type 0 where
   pub no-register : Ruled no_register
   pub long-register : Ruled long_register
   pub other-register : Ruled other_register
+  pub other-opcode : Ruled other_opcode
   pub second-command : Ruled second_command
   pub unselected-look : Ruled unselected_look
   pub look-behind : Ruled look_behind
   pub overwritten-cache : Ruled overwritten
   pub quad-overwritten-cache : Ruled quad_overwritten
+  pub cache-overwritten-in-part : Ruled overwritten_in_part
+  pub cache-overwritten-late : Ruled overwritten_late
+  pub reset-between : Ruled reset_between
   pub programmed-cache : Ruled programmed_between
+  pub long-program : Ruled long_program
+  pub long-load : Ruled long_load
   pub uncorrectable-delivered : Ruled uncorrectable
   pub second-opinion : Ruled second_opinion
   pub other-column : Ruled other_column
   pub short-column : Ruled short_column
+  pub no-dummy : Ruled no_dummy
+  pub two-dummies : Ruled two_dummies
+  pub read-behind : Ruled read_behind
+  pub rewritten-column : Ruled rewritten_column
+  pub quad-behind : Ruled quad_behind
+  pub unselected-quad : Ruled unselected_quad
+  pub long-quad : Ruled long_quad
   pub overtaken-byte : Ruled overtaken
   pub no-delay : Ruled no_delay
   pub long-delay : Ruled long_delay
