@@ -9,11 +9,12 @@ use lib.Dec.{eqb}
 use Rattle.qspi.specs.Shown.{Shown, low, high, write}
 use Rattle.spi_flash.specs.Loan.{Lent}
 use Rattle.spi_flash.specs.Run.{Event, reply, act, entry, goes_on, run_of, call_of, delay_asked}
+use Rattle.spi_flash.specs.Seen.{Undisturbed}
 use Rattle.flash_runs.specs.Driver.{run_at, steps_at}
-use Rattle.flash_runs.specs.Contents.{contents_from}
+use Rattle.flash_runs.specs.Contents.{contents_from, buffer_after}
 use Rattle.spi_nand.specs.Config.{W25N01GV}
 use Rattle.spi_nand.specs.declared.call.Call.{Call}
-use Rattle.flash_runs.specs.Reading.{bytes_read}
+use Rattle.flash_runs.specs.Reading.{bytes_read, HoldsRead}
 use Rattle.flash_runs.specs.Watch.{watched, Succeeded}
 use Rattle.nand_runs.specs.Bound.{pages_touched}
 use Rattle.nand_runs.specs.Observer.{ReadByte, read_byte}
@@ -207,18 +208,53 @@ stale-found : DeliversTheChip (actor (actions_in Shams.stale)) → ⊥
 unfolding watched Succeeded call_of goes_on replies one_byte
 stale-found kept = true≢false (ap (λ xs. eqb (length xs) 0) (kept.write_page at_rest 0 one_byte (replies Shams.stale) tt).reads)
 
+-- the true run: its actions behind the first, what the chip has answered in it, and nobody else in its buffer
+abbrev behind_low : List Exchange
+behind_low = done (write (Shams.load_command 0)) ∷ done high ∷ (Shams.waited ++ Shams.status 0 ++ Shams.last_byte ++ Shams.page_1)
+
+abbrev both : List Exchange
+both = page_0 ++ Shams.page_1
+
+true-answers : FromChip (holding 161 178 0) unseen true_run
+unfolding watched FromChip
+true-answers = (tt, (tt, (tt, (tt, (tt, (tt, (tt, (tt, (tt, (tt, (tt, (tt, (tt, (tt, (tt, (refl, (tt, (tt, (tt, (tt, (tt, (tt, (tt, (tt, (tt, (tt, (tt, (tt, (tt, (tt, (tt, (refl, (tt, tt)))))))))))))))))))))))))))))))))
+
+undisturbed : Undisturbed (0 ∷ 0 ∷ []) true_run
+unfolding Undisturbed
+undisturbed = (refl, (refl, (refl, (refl, (refl, (refl, (refl, (refl, (refl, (refl, (refl, (refl, (refl, (refl, (refl, (refl, (refl, (refl, (refl, (refl, (refl, (refl, (refl, (refl, (refl, (refl, (refl, (refl, (refl, (refl, (refl, (refl, (refl, tt)))))))))))))))))))))))))))))))))
+
+not-filled : DeliversTheChip (actor (actions_in both)) → ⊥
+unfolding buffer_after Succeeded
+not-filled kept =
+    let chip : Chip = holding 161 178 0 in
+    let delivers = kept.read chip at_rest 2047 two_places (events both) (subst (FromChip chip unseen) (sym (runs (done low) behind_low)) true-answers) in
+    let fills =
+    subst (λ ys. Succeeded ys → Undisturbed (0 ∷ 0 ∷ []) ys → buffer_after (0 ∷ 0 ∷ []) ys ≡ contents_from (byte_at W25N01GV chip) 2047 2)
+    (begins both) delivers.fills in
+    true≢false (ap (λ xs. eqb (first xs) 0) (fills tt undisturbed))
+
+not-held : ReadsAsAsked (actor (actions_in both)) → ⊥
+unfolding HoldsRead
+not-held kept =
+    let holds =
+    subst (λ ys. Undisturbed (0 ∷ 0 ∷ []) ys → HoldsRead reads_cache false (0 ∷ 0 ∷ []) [] ys) (runs (done low) behind_low)
+    (kept.holds at_rest 2047 two_places (events both)) in
+    let held : 0 ∷ 0 ∷ [] ≡ 161 ∷ 0 ∷ [] = (holds undisturbed).1.1.1.1.1.1.1.1.1.1.1.1.1.1.1.0 in
+    true≢false (ap (λ xs. eqb (first xs) 0) held)
+
 chips : ChipsTold
 unfolding watched FromChip
 chips = record {
-  answers = (tt, (tt, (tt, (tt, (tt, (tt, (tt, (tt, (tt, (tt, (tt, (tt, (tt, (tt, (tt, (refl, (tt, (tt, (tt, (tt, (tt, (tt, (tt, (tt, (tt, (tt, (tt, (tt, (tt, (tt, (tt, (refl, (tt, tt)))))))))))))))))))))))))))))))));
+  answers = true-answers;
   holds = λ chip h. (sym (ap first h.1.1.1.1.1.1.1.1.1.1.1.1.1.1.1.0), sym (ap first h.1.1.1.1.1.1.1.1.1.1.1.1.1.1.1.1.1.1.1.1.1.1.1.1.1.1.1.1.1.1.1.0));
   unjudged = λ chip h. sym (ap first h.1.1.1.1.1.1.1.1.1.1.1.0);
   unlooked = λ chip h. sym (ap first h.1.1.1.1.1.1.1.0);
   load-skipped = skipped;
+  unfilled = not-filled;
   no-traffic = no-page-written;
   unequal-data = unequal-found;
   stale-cache = stale-found;
 }
 
 pub shams-ruled-out : ShamsRuledOut
-shams-ruled-out = record { lawful = lawful; runs = ruled; chips = chips; drivers = drivers }
+shams-ruled-out = record { lawful = lawful; runs = ruled; chips = chips; drivers = drivers; buffer-kept = not-held }

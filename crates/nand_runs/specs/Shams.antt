@@ -429,6 +429,8 @@ pub record ChipsTold : Type 0 where
   pub unlooked : (chip : Chip) → FromChip chip unseen before_look → chip 0 2047 ≡ 161
   -- a driver that skips a load delivers what the chip does not hold
   pub load-skipped : DeliversTheChip (actor (actions_in (page_0 ++ first_byte))) → ⊥
+  -- one that does all of a read on the bus, and leaves the buffer as it was, does not fill it
+  pub unfilled : DeliversTheChip (actor (actions_in (page_0 ++ page_1))) → ⊥
   -- one that claims success without traffic has written no page
   pub no-traffic : DeliversTheChip (actor []) → ⊥
   -- nor one that goes on with other data than it was lent, or does not load the page again
@@ -441,3 +443,5 @@ pub record ShamsRuledOut : Type 0 where
   pub chips : ChipsTold
   -- a driver that gives out the actions of a sham run does not keep the promises of a read
   pub drivers : (xs : List Exchange) → Ruled (claimed xs) → ReadsAsAsked (actor (actions_in xs)) → ⊥
+  -- nor one that gives out those of the true run, and leaves the buffer as it was
+  pub buffer-kept : ReadsAsAsked (actor (actions_in (page_0 ++ page_1))) → ⊥
