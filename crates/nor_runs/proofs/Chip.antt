@@ -74,7 +74,7 @@ module _ (flash : SpiNorFlash) (offset : ℕ) (l : Lent) (es : List (Event Call)
     Full = SeenRead.Whole len
 
     unasked : Fine first
-    unasked = (tt, tt, omega arith, refl)
+    unasked = (tt, tt, omega arith, refl, refl)
 
     shows : bounded_at nor_driver flash c l ≡ true → Shows (watcher quad) Fine (λ a y. Full y) first (program_at nor_driver flash.setup c l)
     unfolding coded
@@ -106,6 +106,7 @@ module _ (flash : SpiNorFlash) (offset : ℕ) (l : Lent) (es : List (Event Call)
     next = fine.1;
     within = fine.2;
     all = fine.3 ∙ read_is quad xs true;
+    unchanged = fine.4;
     whole = λ e. ap length (sym (read_is quad xs true)) ∙ full e;
   }
 

@@ -10,8 +10,8 @@ use Rattle.std.proofs.Math.Seq.{take-add, take-length}
 use Rattle.std.proofs.lemmas.List.{drop-drop}
 use Rattle.flash_runs.specs.Contents.{contents_from}
 use Rattle.flash_runs.proofs.Contents.{contents-append}
-use Rattle.nor_runs.specs.Chip.{InTurn, joined, places, FromChip, SameAsLent}
-use Rattle.nor_runs.specs.Observer.{Piece}
+use Rattle.nor_runs.specs.Chip.{InTurn, joined, pages, FromChip, SameAsLent}
+use Rattle.nor_runs.specs.Observer.{page, Piece}
 
 -- ---- one more
 
@@ -19,9 +19,9 @@ pub joined-more : (ps : List Piece) (p : Piece) → joined (ps ++ p ∷ []) ≡ 
 joined-more [] p = append-nil p.bytes
 joined-more (x ∷ ps) p = ap (λ bs. x.bytes ++ bs) (joined-more ps p) ∙ sym (append_assoc x.bytes (joined ps) p.bytes)
 
-pub places-more : (ps : List Piece) (p : Piece) → places (ps ++ p ∷ []) ≡ places ps ++ p.place ∷ []
-places-more [] p = refl
-places-more (x ∷ ps) p = ap (λ xs. x.place ∷ xs) (places-more ps p)
+pub pages-more : (ps : List Piece) (p : Piece) → pages (ps ++ p ∷ []) ≡ pages ps ++ page p.place ∷ []
+pages-more [] p = refl
+pages-more (x ∷ ps) p = ap (λ xs. page x.place ∷ xs) (pages-more ps p)
 
 pub in-turn-more : (ps : List Piece) (p : Piece) (place : ℕ) → InTurn place ps → p.place ≡ place + length (joined ps) → length p.bytes ≤ 65536 → InTurn place (ps ++ p ∷ [])
 in-turn-more [] p place h e small = (e ∙ add-zero place, small, tt)

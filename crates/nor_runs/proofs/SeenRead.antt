@@ -22,7 +22,7 @@ use Rattle.spi_nor.proofs.DeviceBounds.{device_bounds}
 use Rattle.spi_nor.proofs.Pieces.{chunk-within}
 use Rattle.spi_nor.specs.declared.setup.Setup.{Setup}
 use Rattle.nor_runs.specs.Chip.{InTurn, joined, AskedAt}
-use Rattle.nor_runs.specs.Observer.{Piece, piece}
+use Rattle.nor_runs.specs.Observer.{Change, Piece, piece}
 use Rattle.nor_runs.proofs.AsCoded.{read-loop, reading, read}
 use Rattle.nor_runs.proofs.Loops.{chunk-some}
 use Rattle.nor_runs.proofs.Pieces.{joined-more, in-turn-more}
@@ -37,9 +37,9 @@ place-exact offset done h =
     rw small (mod-eq_of_lt (omega arith))
 
 -- at every point of a run
-abbrev pub InOrder : (offset len : ℕ) → Option ℕ → List ℕ → List Piece → List ℕ → Type 0
+abbrev pub InOrder : (offset len : ℕ) → Option ℕ → List Change → List Piece → List ℕ → Type 0
 InOrder offset len asked programmed ps bytes =
-    InTurn offset ps × AskedAt (offset + length (joined ps)) asked × (length (joined ps) ≤ len) × (joined ps ≡ bytes)
+    InTurn offset ps × AskedAt (offset + length (joined ps)) asked × (length (joined ps) ≤ len) × (joined ps ≡ bytes) × (programmed ≡ [])
 
 -- where it ended well
 abbrev pub Whole : ℕ → Sights → Type 0
@@ -56,7 +56,7 @@ module _ (flash : Setup) (bounds : in_bounds_of flash.device ≡ true) (offset l
   sound-more ps bytes new given s small room =
       let p = piece (offset + length bytes) new given in
       let all : joined (ps ++ p ∷ []) ≡ bytes ++ new = joined-more ps p ∙ ap (λ bs. bs ++ new) s.3 in
-      (in-turn-more ps p offset s.0 (ap (λ bs. offset + length bs) (sym s.3)) small, tt, omega (arith, ap length all, length-append bytes new), all)
+      (in-turn-more ps p offset s.0 (ap (λ bs. offset + length bs) (sym s.3)) small, tt, omega (arith, ap length all, length-append bytes new), all, refl)
 
   module _ (within : offset + len ≤ flash.device.capacity) where
     -- the loop stands behind these pieces
@@ -91,7 +91,7 @@ module _ (flash : Setup) (bounds : in_bounds_of flash.device ≡ true) (offset l
           subst (λ n. Sound (ps ++ piece (offset + n) new given ∷ []) (bytes ++ new)) stands.size (sound-more ps bytes new given stands.sound (omega (arith, most)) (omega (arith, room, stands.size)))
 
       asking : InOrder offset len (Some (offset + done)) [] ps bytes
-      asking = (stands.sound.0, ap (λ n. offset + n) (sym stands.size ∙ sym (ap length stands.sound.3)), stands.sound.2, stands.sound.3)
+      asking = (stands.sound.0, ap (λ n. offset + n) (sym stands.size ∙ sym (ap length stands.sound.3)), stands.sound.2, stands.sound.3, refl)
 
       turn : Seeing (λ u y. Whole len y) (at [] ps (got mine bytes)) (transfer (read_transfer flash (place_of offset done) size (Sink.Buffer done)) >> read-loop flash fuel offset len (done + size))
       unfolding read_transfer
@@ -121,4 +121,4 @@ module _ (flash : Setup) (bounds : in_bounds_of flash.device ≡ true) (offset l
       {E = λ u y. (range_in_bounds flash.device.capacity offset len ≡ true) × (y ≡ at [] [] (got mine []))}
       (shows-refuse (watcher flash.config.quad) _ (not (range_in_bounds flash.device.capacity offset len)) _ (λ e. (sym (not-not _) ∙ ap not e, refl)))
       (λ u y h. from flash.config.quad (InOrder offset len) h.1
-      (loops (range-told flash.device.capacity offset len h.0) (len - 0) 0 mine [] [] (omega arith) (record { most = omega arith; size = refl; sound = (tt, tt, omega arith, refl) })))
+      (loops (range-told flash.device.capacity offset len h.0) (len - 0) 0 mine [] [] (omega arith) (record { most = omega arith; size = refl; sound = (tt, tt, omega arith, refl, refl) })))

@@ -12,7 +12,6 @@ use borrow.Author.Tests.{eq-eqb}
 use Rattle.qspi.specs.Address.{read_from}
 use Rattle.qspi.specs.Frame.{value_of}
 use Rattle.qspi.specs.Transfer.{command_only}
-use Rattle.qspi.specs.declared.command.Command.{Command}
 use Rattle.qspi.specs.declared.transfer.Sink.{Sink}
 use Rattle.qspi.specs.declared.transfer.Transfer.{Transfer}
 use Rattle.qspi.proofs.Cases.{by_cases}
@@ -30,7 +29,7 @@ use Rattle.spi_nor.specs.Status.{write_enabled_of}
 use Rattle.spi_nor.specs.Transfer.{read_at, program_at, program_transfer}
 use Rattle.spi_nor.specs.declared.opcode.Operation.{Operation}
 use Rattle.spi_nor.specs.declared.setup.Setup.{Setup}
-use Rattle.nor_runs.specs.Observer.{closed, written, quad_place, program_place, quad_program_place, with_place, Piece, piece, with_piece, Sight, sight, observer}
+use Rattle.nor_runs.specs.Observer.{closed, written, quad_place, Change, page, write_changes, quad_program_place, page_or_other, with_change, Piece, piece, with_piece, Sight, sight, observer}
 use Rattle.nor_runs.specs.Rust.{busy_value, wait-ready, write-enable}
 
 abbrev pub Sights : Type 0
@@ -43,21 +42,21 @@ address-exact place h = omega arith
 place-asked : (quad : NorQuadConfig) (place : ℕ) → place < 16777216 → quad_place (Some quad) (written []) (command_bytes (quad_read_command quad place)) ≡ Some place
 place-asked quad place h = rw (eq-eqb quad.read_opcode quad.read_opcode refl) (ap Some (address-exact place h))
 
--- between two transfers, with these places programmed and these pieces; whose data the last command asked for, and the bytes read so far
-abbrev pub seen : List ℕ → List Piece → Sight
+-- between two transfers, with these changes and these pieces; whose data the last command asked for, and the bytes read so far
+abbrev pub seen : List Change → List Piece → Sight
 seen programmed pieces = sight closed None programmed pieces
 
-abbrev pub at : List ℕ → List Piece → Got → Sights
+abbrev pub at : List Change → List Piece → Got → Sights
 at programmed pieces g = (seen programmed pieces, g)
 
 module _ (quad : Option NorQuadConfig) where
   abbrev pub watcher : Watcher Sights
   watcher = both (observer quad) (reader (λ command. true))
 
-  -- Q goes by what is asked, the places programmed, the pieces and the bytes read
-  module _ (R : Option ℕ → List ℕ → List Piece → List ℕ → Type 0) where
+  -- Q goes by what is asked, the changes, the pieces and the bytes read
+  module _ (R : Option ℕ → List Change → List Piece → List ℕ → Type 0) where
     abbrev pub Q : Sights → Type 0
-    Q z = R z.0.asked z.0.programmed z.0.pieces z.1.bytes
+    Q z = R z.0.asked z.0.changed z.0.pieces z.1.bytes
 
     abbrev pub Sees : {A : Type 0} → (A → Sights → Type 0) → Sights → Prog A → Type 0
     Sees E z p = Shows watcher Q E z p
@@ -67,7 +66,7 @@ module _ (quad : Option NorQuadConfig) where
 
     -- ---- a read of the contents
 
-    module _ (place n : ℕ) (small : place < 16777216) (sink : Sink) (programmed : List ℕ) (pieces : List Piece) (g : Got) (q : R None programmed pieces g.bytes)
+    module _ (place n : ℕ) (small : place < 16777216) (sink : Sink) (programmed : List Change) (pieces : List Piece) (g : Got) (q : R None programmed pieces g.bytes)
         (asking : R (Some place) programmed pieces g.bytes) where
       -- the bytes that came, beside these data, with the value that they gave
       abbrev pub Came : ℕ → Sights → Type 0
@@ -109,7 +108,7 @@ module _ (quad : Option NorQuadConfig) where
 
     -- ---- what a write does beside: no byte of the contents is asked for
 
-    module _ (programmed : List ℕ) (pieces : List Piece) (q : (bytes : List ℕ) → R None programmed pieces bytes) where
+    module _ (programmed : List Change) (pieces : List Piece) (q : (bytes : List ℕ) → R None programmed pieces bytes) where
       -- a program behind which the places and pieces are still these
       abbrev pub Quiet : {A : Type 0} → Got → Prog A → Type 0
       Quiet g p = Sees (λ a y. y.0 ≡ seen programmed pieces) (at programmed pieces g) p
@@ -125,8 +124,8 @@ module _ (quad : Option NorQuadConfig) where
       pause : (g : Got) (us : ℕ) → Quiet g (transfer (Transfer.Pause us))
       pause g us = shows-transfer watcher Q (Transfer.Pause us) (q _, (q _, refl))
 
-      command : (g : Got) (c : Command) → Quiet g (transfer (command_only c))
-      command g c = shows-transfer watcher Q (command_only c) (q _, (q _, (q _, (q _, refl))))
+      enabling : (g : Got) → Quiet g (transfer (command_only write_enable_command))
+      enabling g = shows-transfer watcher Q (command_only write_enable_command) (q _, (q _, (q _, (q _, refl))))
 
       look : (g : Got) → Quiet g (transfer (number_transfer read_status1_command 1))
       look g =
@@ -152,34 +151,34 @@ module _ (quad : Option NorQuadConfig) where
       pub enable : (g : Got) → Quiet g write-enable
       unfolding write-enable
       enable g =
-          quiet-then (command g write_enable_command) (λ h.
+          quiet-then (enabling g) (λ h.
           quiet-bind (quiet-bind (look h) (λ v k. shows-ret watcher Q refl)) (λ status1 k.
           shows-refuse watcher Q (not (write_enabled_of status1)) _ (λ e. refl)))
 
       -- ---- a page is programmed
 
-      module _ (place : ℕ) (small : place < 16777216) (more : (bytes : List ℕ) → R None (programmed ++ place ∷ []) pieces bytes) where
-        noted : (p : Option ℕ) → p ≡ Some place → (bytes : List ℕ) → R None (with_place p programmed) pieces bytes
-        noted p e bytes = subst (λ x. R None (with_place x programmed) pieces bytes) (sym e) (more bytes)
+      module _ (place : ℕ) (small : place < 16777216) (more : (bytes : List ℕ) → R None (programmed ++ page place ∷ []) pieces bytes) where
+        noted : (p : Option Change) → p ≡ Some (page place) → (bytes : List ℕ) → R None (with_change p programmed) pieces bytes
+        noted p e bytes = subst (λ x. R None (with_change x programmed) pieces bytes) (sym e) (more bytes)
 
-        noted-is : (p : Option ℕ) → p ≡ Some place → seen (with_place p programmed) pieces ≡ seen (programmed ++ place ∷ []) pieces
-        noted-is p e = ap (λ x. seen (with_place x programmed) pieces) e
+        noted-is : (p : Option Change) → p ≡ Some (page place) → seen (with_change p programmed) pieces ≡ seen (programmed ++ page place ∷ []) pieces
+        noted-is p e = ap (λ x. seen (with_change x programmed) pieces) e
 
-        program : (from n : ℕ) (g : Got) → Sees (λ a y. y.0 ≡ seen (programmed ++ place ∷ []) pieces) (at programmed pieces g) (transfer (program_at quad place from n))
+        program : (from n : ℕ) (g : Got) → Sees (λ a y. y.0 ≡ seen (programmed ++ page place ∷ []) pieces) (at programmed pieces g) (transfer (program_at quad place from n))
         program from n g = at_width quad
           where
-            at_width : (w : Option NorQuadConfig) → Shows (both (observer w) (reader (λ command. true))) Q (λ a y. y.0 ≡ seen (programmed ++ place ∷ []) pieces) (at programmed pieces g) (transfer (program_at w place from n))
+            at_width : (w : Option NorQuadConfig) → Shows (both (observer w) (reader (λ command. true))) Q (λ a y. y.0 ≡ seen (programmed ++ page place ∷ []) pieces) (at programmed pieces g) (transfer (program_at w place from n))
             at_width None =
-                let sent : Option ℕ = program_place (written (command_bytes (page_program_command place))) in
-                let exact : sent ≡ Some place = ap Some (address-exact place small) in
+                let sent : Option Change = write_changes (written (command_bytes (page_program_command place))) [] in
+                let exact : sent ≡ Some (page place) = ap (λ p. Some (page p)) (address-exact place small) in
                 shows-transfer _ Q (program_at None place from n)
                 (q _, (q _, ((q _, q _), (λ given. (noted sent exact _, (noted sent exact _, (noted sent exact _, noted-is sent exact)))))))
             at_width (Some x) =
-                let sent : Option ℕ = quad_program_place (Some x) (written []) (command_bytes (quad_page_program_command x place)) in
-                let exact : sent ≡ Some place = rw (eq-eqb x.page_program_opcode x.page_program_opcode refl) (ap Some (address-exact place small)) in
+                let sent : Option Change = Some (page_or_other (quad_program_place (Some x) (written []) (command_bytes (quad_page_program_command x place)))) in
+                let exact : sent ≡ Some (page place) = rw (eq-eqb x.page_program_opcode x.page_program_opcode refl) (ap (λ p. Some (page p)) (address-exact place small)) in
                 shows-transfer _ Q (program_at (Some x) place from n) (q _, (λ given. (noted sent exact _, (noted sent exact _, (noted sent exact _, noted-is sent exact)))))
 
         pub program_sent : (setup : Setup) → setup.config.quad ≡ quad → (from n : ℕ) (g : Got) →
-            Sees (λ a y. y.0 ≡ seen (programmed ++ place ∷ []) pieces) (at programmed pieces g) (transfer (program_transfer setup place from n))
+            Sees (λ a y. y.0 ≡ seen (programmed ++ page place ∷ []) pieces) (at programmed pieces g) (transfer (program_transfer setup place from n))
         unfolding program_transfer
         program_sent setup e from n g = rw e (program from n g)

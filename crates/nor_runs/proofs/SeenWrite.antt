@@ -23,26 +23,26 @@ use Rattle.spi_nor.specs.Transfer.{place_of, page_of, read_transfer, multiple_of
 use Rattle.spi_nor.proofs.DeviceBounds.{device_bounds}
 use Rattle.spi_nor.specs.declared.opcode.Operation.{Operation}
 use Rattle.spi_nor.specs.declared.setup.Setup.{Setup}
-use Rattle.nor_runs.specs.Chip.{InTurn, joined, AskedAt, places, SameAsLent}
-use Rattle.nor_runs.specs.Observer.{Piece, piece, Sight}
+use Rattle.nor_runs.specs.Chip.{InTurn, joined, AskedAt, pages, SameAsLent}
+use Rattle.nor_runs.specs.Observer.{Change, page, Piece, piece, Sight}
 use Rattle.nor_runs.proofs.AsCoded.{read_back, page-program, write-loop, writing, write}
 use Rattle.nor_runs.proofs.Loops.{page-some}
-use Rattle.nor_runs.proofs.Pieces.{joined-more, places-more, in-turn-more, same-more}
+use Rattle.nor_runs.proofs.Pieces.{joined-more, pages-more, in-turn-more, same-more}
 use Rattle.nor_runs.proofs.SeenRead.{place-exact}
 use Rattle.nor_runs.proofs.SeenTransfers as Transfers
 use Rattle.nor_runs.proofs.SeenTransfers.{Sights, seen, at, watcher, Sees, from, quiet-then}
 
 -- at every point of a run
-abbrev pub InOrder : (offset len : ℕ) → Option ℕ → List ℕ → List Piece → List ℕ → Type 0
+abbrev pub InOrder : (offset len : ℕ) → Option ℕ → List Change → List Piece → List ℕ → Type 0
 InOrder offset len asked programmed ps bytes =
-    InTurn offset ps × AskedAt (offset + length (joined ps)) asked × (length (joined ps) ≤ len) × Prefix (places ps) programmed
+    InTurn offset ps × AskedAt (offset + length (joined ps)) asked × (length (joined ps) ≤ len) × Prefix (pages ps) programmed
 
 -- where it ended well
 abbrev pub Whole : ℕ → Sights → Type 0
-Whole len z = SameAsLent 0 z.0.pieces × (length (joined z.0.pieces) ≡ len) × (places z.0.pieces ≡ z.0.programmed)
+Whole len z = SameAsLent 0 z.0.pieces × (length (joined z.0.pieces) ≡ len) × (pages z.0.pieces ≡ z.0.changed)
 
 module _ (flash : Setup) (bounds : in_bounds_of flash.device ≡ true) (offset len : ℕ) where
-  abbrev Sound : Option ℕ → List ℕ → List Piece → List ℕ → Type 0
+  abbrev Sound : Option ℕ → List Change → List Piece → List ℕ → Type 0
   Sound = InOrder offset len
 
   abbrev Seeing : {A : Type 0} → (A → Sights → Type 0) → Sights → Prog A → Type 0
@@ -57,7 +57,7 @@ module _ (flash : Setup) (bounds : in_bounds_of flash.device ≡ true) (offset l
       same : SameAsLent 0 ps
 
     abbrev Goes : ℕ → Type 0
-    Goes fuel = (done : ℕ) (ps : List Piece) (g : Got) → len - done ≤ fuel → Stands done ps → Seeing (λ u y. Whole len y) (at (places ps) ps g) (write-loop flash fuel offset len done)
+    Goes fuel = (done : ℕ) (ps : List Piece) (g : Got) → len - done ≤ fuel → Stands done ps → Seeing (λ u y. Whole len y) (at (pages ps) ps g) (write-loop flash fuel offset len done)
 
     -- a page
     module _ (done : ℕ) (ps : List Piece) (below : done < len) (stands : Stands done ps) where
@@ -79,20 +79,20 @@ module _ (flash : Setup) (bounds : in_bounds_of flash.device ≡ true) (offset l
       small = omega (arith, (device_bounds.accepted flash.device bounds).capacity)
 
       -- programmed, and not read back yet
-      abbrev programmed : List ℕ
-      programmed = places ps ++ (offset + done) ∷ []
+      abbrev programmed : List Change
+      programmed = pages ps ++ page (offset + done) ∷ []
 
       so_far : length (joined ps) ≤ len
       so_far = omega (arith, stands.size, stands.most)
 
-      before : (bytes : List ℕ) → Sound None (places ps) ps bytes
-      before bytes = (stands.in_turn, tt, so_far, record { rest = []; whole = append-nil (places ps) })
+      before : (bytes : List ℕ) → Sound None (pages ps) ps bytes
+      before bytes = (stands.in_turn, tt, so_far, record { rest = []; whole = append-nil (pages ps) })
 
       sent : (bytes : List ℕ) → Sound None programmed ps bytes
-      sent bytes = (stands.in_turn, tt, so_far, record { rest = (offset + done) ∷ []; whole = refl })
+      sent bytes = (stands.in_turn, tt, so_far, record { rest = page (offset + done) ∷ []; whole = refl })
 
       asking : (bytes : List ℕ) → Sound (Some (offset + done)) programmed ps bytes
-      asking bytes = (stands.in_turn, ap (λ n. offset + n) (sym stands.size), so_far, record { rest = (offset + done) ∷ []; whole = refl })
+      asking bytes = (stands.in_turn, ap (λ n. offset + n) (sym stands.size), so_far, record { rest = page (offset + done) ∷ []; whole = refl })
 
       more : (new given : List ℕ) → length new ≡ size → InTurn offset (ps ++ piece (offset + done) new given ∷ [])
       more new given e = in-turn-more ps (piece (offset + done) new given) offset stands.in_turn (ap (λ n. offset + n) (sym stands.size)) (omega (arith, most))
@@ -100,7 +100,7 @@ module _ (flash : Setup) (bounds : in_bounds_of flash.device ≡ true) (offset l
       came : (g : Got) (new given : List ℕ) → length new ≡ size → Sound None programmed (ps ++ piece (offset + done) new given ∷ []) (g.bytes ++ new)
       came g new given e =
           let p = piece (offset + done) new given in
-          (more new given e, tt, omega (arith, ap length (joined-more ps p), length-append (joined ps) new, stands.size, room), record { rest = []; whole = append-nil _ ∙ places-more ps (piece (offset + done) new given) })
+          (more new given e, tt, omega (arith, ap length (joined-more ps p), length-append (joined ps) new, stands.size, room), record { rest = []; whole = append-nil _ ∙ pages-more ps (piece (offset + done) new given) })
 
       -- what has come of a page that was read back as it was lent
       Programmed : Sights → Type 0
@@ -113,12 +113,12 @@ module _ (flash : Setup) (bounds : in_bounds_of flash.device ≡ true) (offset l
           (shows-refuse (watcher flash.config.quad) _ (not (range_in_bounds flash.device.capacity (offset + done) size)) _ (λ e. refl))
           (λ u y e. from flash.config.quad Sound e (Transfers.reading flash.config.quad Sound (offset + done) size small (Sink.Compare done) programmed ps g (sent g.bytes) (asking g.bytes) some (came g)))
 
-      programs : (g : Got) → Seeing (λ u y. Programmed y) (at (places ps) ps g) (page-program flash (offset + done) done size)
+      programs : (g : Got) → Seeing (λ u y. Programmed y) (at (pages ps) ps g) (page-program flash (offset + done) done size)
       unfolding page-program Programmed
       programs g =
           let quad = flash.config.quad in
-          quiet-then quad Sound (places ps) ps before (Transfers.enable quad Sound (places ps) ps before g)
-          (λ h. shows_then (watcher quad) _ (Transfers.program_sent quad Sound (places ps) ps before (offset + done) small sent flash refl done size h)
+          quiet-then quad Sound (pages ps) ps before (Transfers.enable quad Sound (pages ps) ps before g)
+          (λ h. shows_then (watcher quad) _ (Transfers.program_sent quad Sound (pages ps) ps before (offset + done) small sent flash refl done size h)
           (λ u y e. from quad Sound (ap (λ (s : Sight). (s, y.1)) e)
           (quiet-then quad Sound programmed ps sent (Transfers.wait quad Sound programmed ps sent Operation.PageProgram y.1)
           (λ j. shows-bind (watcher quad) _ (back j)
@@ -137,16 +137,16 @@ module _ (flash : Setup) (bounds : in_bounds_of flash.device ≡ true) (offset l
             same = same-more ps p 0 stands.same (same ∙ ap (λ n. take (length new) (drop n given)) (sym stands.size ∙ sym (zero-add (length (joined ps)))));
           }
 
-      turn : Seeing (λ u y. Whole len y) (at (places ps) ps g) (page-program flash (place_of offset done) done (size done ps below stands) >> write-loop flash fuel offset len (done + size done ps below stands))
+      turn : Seeing (λ u y. Whole len y) (at (pages ps) ps g) (page-program flash (place_of offset done) done (size done ps below stands) >> write-loop flash fuel offset len (done + size done ps below stands))
       unfolding Programmed
       turn =
           rw (place-exact offset done (small done ps below stands))
           (shows_then (watcher flash.config.quad) _ (programs done ps below stands g)
-          (λ u y came. from flash.config.quad Sound (ap (λ (s : Sight). (s, y.1)) (came.4 ∙ ap (λ (b : List ℕ). seen b (ps ++ piece (offset + done) came.0 came.1 ∷ [])) (sym (places-more ps (piece (offset + done) came.0 came.1)))))
+          (λ u y came. from flash.config.quad Sound (ap (λ (s : Sight). (s, y.1)) (came.4 ∙ ap (λ (b : List Change). seen b (ps ++ piece (offset + done) came.0 came.1 ∷ [])) (sym (pages-more ps (piece (offset + done) came.0 came.1)))))
           (goes (done + size done ps below stands) (ps ++ piece (offset + done) came.0 came.1 ∷ []) y.1 (omega (arith, some done ps below stands))
           (stands_on came.0 came.1 came.2 came.3))))
 
-    ended : (done : ℕ) (ps : List Piece) (g : Got) → len ≤ done → Stands done ps → Seeing (λ u y. Whole len y) (at (places ps) ps g) (ret (tt {0}))
+    ended : (done : ℕ) (ps : List Piece) (g : Got) → len ≤ done → Stands done ps → Seeing (λ u y. Whole len y) (at (pages ps) ps g) (ret (tt {0}))
     ended done ps g past stands = shows-ret (watcher flash.config.quad) _ (stands.same, omega (arith, stands.size, stands.most), refl)
 
     loops : (fuel : ℕ) → Goes fuel

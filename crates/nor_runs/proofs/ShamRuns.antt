@@ -1,11 +1,12 @@
 -- Each sham run breaks a part of `ReadSeen` or `WriteSeen`, by computation.
 use Prim.Native.Nat.{ℕ}
 use native.Mathlib.Omega.{arith}
-use mathlib.Core.Path.{refl, ap}
+use mathlib.Core.Path.{refl, ap, sym}
 use mathlib.Core.List.{List, [], ◌∷◌}
 use lib.ListN.{length}
 use Rattle.flash_runs.specs.Reading.{bytes_read}
 use Rattle.flash_runs.specs.Watch.{watched, Succeeded}
+use Rattle.nor_runs.specs.Observer.{Change, page, other}
 use Rattle.nor_runs.specs.ShamRuns.{ShamRunsFail}
 
 -- ---- what tells two lists apart
@@ -18,14 +19,28 @@ abbrev second : List ℕ → ℕ
 second [] = 0
 second (x ∷ xs) = first xs
 
+-- a page's place, and 0 for what is none
+abbrev place : Change → ℕ
+place (page p) = p
+place other = 0
+
+abbrev changed_at : List Change → ℕ
+changed_at [] = 0
+changed_at (x ∷ xs) = place x
+
 pub sham-runs-fail : ShamRunsFail
 unfolding watched Succeeded bytes_read
 sham-runs-fail = record {
-  whole = record { in_turn = (refl, omega arith, tt); next = tt; within = omega arith; all = refl; whole = λ e. refl };
-  in_pieces = record { in_turn = (refl, omega arith, (refl, omega arith, tt)); next = tt; within = omega arith; all = refl; whole = λ e. refl };
-  by_quad = record { in_turn = (refl, omega arith, tt); next = tt; within = omega arith; all = refl; whole = λ e. refl };
+  whole = record { in_turn = (refl, omega arith, tt); next = tt; within = omega arith; all = refl; unchanged = refl; whole = λ e. refl };
+  in_pieces = record { in_turn = (refl, omega arith, (refl, omega arith, tt)); next = tt; within = omega arith; all = refl; unchanged = refl; whole = λ e. refl };
+  by_quad = record { in_turn = (refl, omega arith, tt); next = tt; within = omega arith; all = refl; unchanged = refl; whole = λ e. refl };
   no-traffic = λ h. omega (arith, h.whole tt);
   rest-claimed = λ h. omega (arith, h.whole tt);
+  after_pause = record { in_turn = (refl, omega arith, tt); next = tt; within = omega arith; all = refl; unchanged = refl; whole = λ e. refl };
+  second-command = λ h. omega (arith, ap length h.all);
+  command-behind-quad = λ h. omega (arith, ap length h.all);
+  reads-on = λ h. omega (arith, ap length h.all);
+  erased-and-read = λ h. omega (arith, ap length h.unchanged);
   offset-again = λ h. omega (arith, h.in_turn.2.0);
   asked-again = λ h. omega (arith, h.next);
   past-the-end = λ h. omega (arith, h.within);
@@ -41,11 +56,21 @@ sham-runs-fail = record {
   other-opcode = λ h. omega (arith, ap length h.all);
   back = record { in_turn = (refl, omega arith, tt); next = tt; within = omega arith; programmed = record { rest = []; whole = refl }; all_back = λ e. refl; as_lent = λ e. (refl, tt); whole = λ e. refl };
   back_by_quad = record { in_turn = (refl, omega arith, tt); next = tt; within = omega arith; programmed = record { rest = []; whole = refl }; all_back = λ e. refl; as_lent = λ e. (refl, tt); whole = λ e. refl };
+  back_at_once = record { in_turn = (refl, omega arith, tt); next = tt; within = omega arith; programmed = record { rest = []; whole = refl }; all_back = λ e. refl; as_lent = λ e. (refl, tt); whole = λ e. refl };
+  back_in_three = record { in_turn = (refl, omega arith, tt); next = tt; within = omega arith; programmed = record { rest = []; whole = refl }; all_back = λ e. refl; as_lent = λ e. (refl, tt); whole = λ e. refl };
   not-read-back = λ h. omega (arith, h.whole tt);
   not-compared = λ h. omega (arith, ap second (h.as_lent tt).0);
   other-place = λ h. omega (arith, h.in_turn.0);
-  written-elsewhere = λ h. omega (arith, ap first (h.all_back tt));
-  other-command = λ h. omega (arith, ap length (h.all_back tt));
+  written-elsewhere = λ h. omega (arith, ap changed_at (h.all_back tt));
+  other-command = λ h. omega (arith, ap changed_at (h.all_back tt));
   never-written = λ h. omega (arith, ap length (h.all_back tt));
   read-back-first = λ h. omega (arith, ap length h.programmed.whole);
+  hidden-program = λ h. omega (arith, ap length (h.all_back tt));
+  hidden-in-parts = λ h. omega (arith, ap length (h.all_back tt));
+  erased-behind = λ h. omega (arith, ap length (h.all_back tt));
+  behind-a-byte = λ h. omega (arith, ap changed_at (h.all_back tt));
+  other-quad-write = λ h. omega (arith, ap length (h.all_back tt));
+  back-in-one-frame = λ h. omega (arith, h.whole tt);
+  answers = (refl, tt);
+  holds = λ contents h. (sym (ap first h.0), sym (ap second h.0));
 }

@@ -12,7 +12,7 @@ use Rattle.flash_runs.specs.Watch.{watched, Succeeded}
 use Rattle.spi_nor.specs.declared.call.Call.{Call}
 use Rattle.spi_nor.specs.declared.config.NorQuadConfig.{NorQuadConfig}
 use Rattle.spi_nor.specs.declared.setup.Setup.{Setup}
-use Rattle.nor_runs.specs.Observer.{Piece, Sight, unseen, observer}
+use Rattle.nor_runs.specs.Observer.{Change, page, Piece, Sight, unseen, observer}
 
 -- ---- pieces
 
@@ -26,10 +26,10 @@ abbrev pub joined : List Piece → List ℕ
 joined [] = []
 joined (p ∷ ps) = p.bytes ++ joined ps
 
--- where they begin
-abbrev pub places : List Piece → List ℕ
-places [] = []
-places (p ∷ ps) = p.place ∷ places ps
+-- the pages that begin where they do
+abbrev pub pages : List Piece → List Change
+pages [] = []
+pages (p ∷ ps) = page p.place ∷ pages ps
 
 -- what is asked of the contents, if anything is, is asked from this place
 abbrev pub AskedAt : ℕ → Option ℕ → Type 0
@@ -61,22 +61,24 @@ module _ (quad : Option NorQuadConfig) {C A : Type 0} (xs : List (Entry C A)) wh
   abbrev pub data_in : List ℕ
   data_in = bytes_read (λ command. true) true xs
 
-  -- a read of len bytes at offset: every byte that came was asked of the contents, in order, and at a good end they are all there
+  -- a read of len bytes at offset: every byte that came was asked of the contents, in order, nothing was changed, and at a good end they
+  -- are all there
   pub record ReadSeen (offset len : ℕ) : Type 0 where
     pub in_turn : InTurn offset pieces_in
     pub next : AskedAt (offset + length (joined pieces_in)) seen_in.asked
     pub within : length (joined pieces_in) ≤ len
     pub all : joined pieces_in ≡ data_in
+    pub unchanged : seen_in.changed ≡ []
     pub whole : Succeeded xs → length data_in ≡ len
 
   -- a write of len bytes at offset: it reads back from its own places alone, in order, each page once it was programmed; and at a good
-  -- end all of them, each as the data were in the step that compared it
+  -- end all of them, each as the data were in the step that compared it, with nothing else changed
   pub record WriteSeen (offset len : ℕ) : Type 0 where
     pub in_turn : InTurn offset pieces_in
     pub next : AskedAt (offset + length (joined pieces_in)) seen_in.asked
     pub within : length (joined pieces_in) ≤ len
-    pub programmed : Prefix (places pieces_in) seen_in.programmed
-    pub all_back : Succeeded xs → places pieces_in ≡ seen_in.programmed
+    pub programmed : Prefix (pages pieces_in) seen_in.changed
+    pub all_back : Succeeded xs → pages pieces_in ≡ seen_in.changed
     pub as_lent : Succeeded xs → SameAsLent 0 pieces_in
     pub whole : Succeeded xs → length (joined pieces_in) ≡ len
 

@@ -1,11 +1,11 @@
--- What is seen of a NOR from outside: the reads of its contents, told from the bytes on the bus alone, what came back to them, and where
--- pages were programmed (docs/SPECIFICATION.md, "Reads on the bus"). The watcher knows nothing of the driver; beside the bytes it knows the
+-- What is seen of a NOR from outside: the reads of its contents, told from the bytes on the bus alone, what came back to them, where pages
+-- were programmed, and whether anything else was sent (docs/SPECIFICATION.md, "Reads on the bus"). The watcher knows nothing of the driver; beside the bytes it knows the
 -- opcodes that the caller has chosen for quad calls.
-use Rattle.std.specs.Prelude.{ℕ, ◌==◌, List, [], ◌∷◌, ◌++◌, Option, Some, None, if◌then◌else◌}
+use Rattle.std.specs.Prelude.{ℕ, ◌==◌, ◌||◌, List, [], ◌∷◌, ◌++◌, Option, Some, None, if◌then◌else◌}
 use Rattle.qspi.specs.Address.{read_from}
 use Rattle.qspi.specs.Shown.{Shown, low, high, write, read, quad_read, quad_write, delay}
 use Rattle.flash_runs.specs.Watch.{Watcher}
-use Rattle.spi_nor.specs.Opcode.{READ, PAGE-PROGRAM}
+use Rattle.spi_nor.specs.Opcode.{READ, READ-STATUS1, WRITE-ENABLE, PAGE-PROGRAM}
 use Rattle.spi_nor.specs.declared.config.NorQuadConfig.{NorQuadConfig}
 
 -- ---- the frame
@@ -53,27 +53,60 @@ asks quad (read n) frame = read_place frame
 asks quad (quad_read command tclqv margin n) frame = quad_place quad frame command
 asks quad _ frame = None
 
--- ---- where a page is programmed
+-- ---- what is changed
 
--- data behind the command 02, where nothing else was written in the frame
-abbrev pub program_place : Frame → Option ℕ
-program_place closed = None
-program_place (written command) = place_in PAGE-PROGRAM command
-program_place used = None
+-- a page is programmed from this place on; or a command is sent that neither reads nor programs as above: an erase, say
+pub data Change : Type 0 where
+  page : ℕ → Change
+  other : Change
+
+abbrev pub paged : Option ℕ → Option Change
+paged None = None
+paged (Some place) = Some (page place)
+
+-- data behind the command 02 and its address, in the same bytes
+abbrev pub place_ahead : List ℕ → Option ℕ
+place_ahead (first ∷ a ∷ b ∷ c ∷ d ∷ bytes) = place_in PAGE-PROGRAM (first ∷ a ∷ b ∷ c ∷ [])
+place_ahead _ = None
+
+-- the first bytes of a frame: 03, 05 and 06 change nothing
+abbrev pub opens : List ℕ → Option Change
+opens [] = None
+opens (first ∷ bytes) =
+    if first == PAGE-PROGRAM
+    then paged (place_ahead (first ∷ bytes))
+    else if first == READ || first == READ-STATUS1 || first == WRITE-ENABLE then None else Some other
+
+-- bytes behind these: data behind 02 and its address, however they are cut into writes
+abbrev pub continues : (before bytes : List ℕ) → Option Change
+continues [] bytes = opens bytes
+continues (first ∷ a ∷ b ∷ c ∷ []) bytes = paged (place_in PAGE-PROGRAM (first ∷ a ∷ b ∷ c ∷ []))
+continues (first ∷ a ∷ b ∷ c ∷ d ∷ before) bytes = None
+continues before bytes = paged (place_ahead (before ++ bytes))
+
+abbrev pub write_changes : Frame → List ℕ → Option Change
+write_changes closed bytes = None
+write_changes (written before) bytes = continues before bytes
+write_changes used bytes = None
 
 -- a quad write, alone in its frame, with the caller's opcode
 abbrev pub quad_program_place : Option NorQuadConfig → Frame → List ℕ → Option ℕ
 quad_program_place (Some quad) (written []) command = place_in quad.page_program_opcode command
 quad_program_place _ _ command = None
 
-abbrev pub programs : Option NorQuadConfig → Shown → Frame → Option ℕ
-programs quad (write bytes) frame = program_place frame
-programs quad (quad_write command payload) frame = quad_program_place quad frame command
-programs quad _ frame = None
+-- and any other
+abbrev pub page_or_other : Option ℕ → Change
+page_or_other None = other
+page_or_other (Some place) = page place
 
-abbrev pub with_place : Option ℕ → List ℕ → List ℕ
-with_place None before = before
-with_place (Some place) before = before ++ place ∷ []
+abbrev pub changes : Option NorQuadConfig → Shown → Frame → Option Change
+changes quad (write bytes) frame = write_changes frame bytes
+changes quad (quad_write command payload) frame = Some (page_or_other (quad_program_place quad frame command))
+changes quad _ frame = None
+
+abbrev pub with_change : Option Change → List Change → List Change
+with_change None before = before
+with_change (Some change) before = before ++ change ∷ []
 
 -- ---- what came back
 
@@ -98,12 +131,12 @@ pub record Sight : Type 0 where
   pub frame : Frame
   -- the place that the action that is out asks for
   pub asked : Option ℕ
-  -- the places of the pages programmed, and the pieces that came back, each in turn
-  pub programmed : List ℕ
+  -- what was changed, and the pieces that came back, each in turn
+  pub changed : List Change
   pub pieces : List Piece
 
-abbrev pub sight : Frame → Option ℕ → List ℕ → List Piece → Sight
-sight frame asked programmed pieces = record { frame = frame; asked = asked; programmed = programmed; pieces = pieces }
+abbrev pub sight : Frame → Option ℕ → List Change → List Piece → Sight
+sight frame asked changed pieces = record { frame = frame; asked = asked; changed = changed; pieces = pieces }
 
 -- before a run
 abbrev pub unseen : Sight
@@ -111,6 +144,6 @@ unseen = sight closed None [] []
 
 abbrev pub observer : Option NorQuadConfig → Watcher Sight
 observer quad = record {
-  gives = λ shown s. sight (frame_after shown s.frame) (asks quad shown s.frame) (with_place (programs quad shown s.frame) s.programmed) s.pieces;
-  hears = λ given bytes s. sight s.frame None s.programmed (with_piece s.asked given bytes s.pieces);
+  gives = λ shown s. sight (frame_after shown s.frame) (asks quad shown s.frame) (with_change (changes quad shown s.frame) s.changed) s.pieces;
+  hears = λ given bytes s. sight s.frame None s.changed (with_piece s.asked given bytes s.pieces);
 }

@@ -1,13 +1,13 @@
 -- Runs of a NOR's read and write that sham drivers would show, beside lawful ones (docs/SPECIFICATION.md, "Shams" and "Reads on the bus"):
 -- each of 2 bytes at place 5. The observer allows the lawful runs and none of the shams, for one thing that each does otherwise.
-use Rattle.std.specs.Prelude.{ℕ, List, [], ◌∷◌, ◌++◌, Option, Some, None}
-use Rattle.qspi.specs.Shown.{Shown, low, high, write, read, quad_read, quad_write}
+use Rattle.std.specs.Prelude.{ℕ, ◌≡◌, ◌==◌, if◌then◌else◌, List, [], ◌∷◌, ◌++◌, Option, Some, None}
+use Rattle.qspi.specs.Shown.{Shown, low, high, write, read, quad_read, quad_write, delay}
 use Rattle.qspi.specs.declared.bus.Reply.{Reply}
 use Rattle.spi_flash.specs.Loan.{Lent}
 use Rattle.spi_flash.specs.Run.{Event, reply, call, Given, act, ended, Entry}
 use Rattle.spi_nor.specs.Config.{quad_w25q128jv}
 use Rattle.spi_nor.specs.declared.config.NorQuadConfig.{NorQuadConfig}
-use Rattle.nor_runs.specs.Chip.{ReadSeen, WriteSeen}
+use Rattle.nor_runs.specs.Chip.{FromChip, pieces_in, ReadSeen, WriteSeen}
 
 -- ---- how a run is written down
 
@@ -52,6 +52,10 @@ abbrev pub writes : List (List ℕ) → List Exchange
 writes [] = []
 writes (bytes ∷ more) = done (write bytes) ∷ writes more
 
+-- these, in a frame of their own
+abbrev pub framed : List (List ℕ) → List Exchange
+framed written = done low ∷ writes written ++ done high ∷ []
+
 -- and behind them a read of so many bytes
 abbrev pub asked : List (List ℕ) → List ℕ → ℕ → List Exchange
 asked written answer n = done low ∷ writes written ++ got (read n) answer ∷ done high ∷ []
@@ -77,6 +81,10 @@ read_in_pieces = claimed (piece_at 5 (161 ∷ []) 1 ++ piece_at 6 (178 ∷ []) 1
 
 abbrev pub read_quad : List Seen
 read_quad = claimed (quad_piece 0x6B 5 both_bytes 2)
+
+-- a pause in the frame
+abbrev pub read_after_pause : List Seen
+read_after_pause = claimed (done low ∷ done (write (3 ∷ 0 ∷ 0 ∷ 5 ∷ [])) ∷ done (delay 1) ∷ got (read 2) both_bytes ∷ done high ∷ [])
 
 -- success with no traffic
 abbrev pub no_traffic : List Seen
@@ -118,6 +126,20 @@ longer_command = claimed (asked ((3 ∷ 0 ∷ 0 ∷ 5 ∷ 0 ∷ []) ∷ []) both
 abbrev pub byte_ahead_of_quad : List Seen
 byte_ahead_of_quad = claimed (done low ∷ done (write (0 ∷ [])) ∷ got (quad_read (0x6B ∷ 0 ∷ 0 ∷ 5 ∷ []) 8 0 2) both_bytes ∷ done high ∷ [])
 
+-- in one frame: another command behind a read, or behind a quad read, which the chip does not take; a read behind one that got no data
+abbrev pub second_command : List Seen
+second_command = claimed (done low ∷ done (write (3 ∷ 0 ∷ 0 ∷ 5 ∷ [])) ∷ got (read 1) (161 ∷ []) ∷ done (write (3 ∷ 0 ∷ 0 ∷ 6 ∷ [])) ∷ got (read 1) (178 ∷ []) ∷ done high ∷ [])
+
+abbrev pub command_behind_quad : List Seen
+command_behind_quad = claimed (done low ∷ got (quad_read (0x6B ∷ 0 ∷ 0 ∷ 5 ∷ []) 8 0 1) (161 ∷ []) ∷ done (write (3 ∷ 0 ∷ 0 ∷ 6 ∷ [])) ∷ got (read 1) (178 ∷ []) ∷ done high ∷ [])
+
+abbrev pub reads_on : List Seen
+reads_on = claimed (done low ∷ done (write (3 ∷ 0 ∷ 0 ∷ 5 ∷ [])) ∷ done (read 2) ∷ got (read 2) both_bytes ∷ done high ∷ [])
+
+-- a sector erased, and then read
+abbrev pub erased_and_read : List Seen
+erased_and_read = claimed (framed ((0x20 ∷ 0 ∷ 0 ∷ 5 ∷ []) ∷ []) ++ piece_at 5 both_bytes 2)
+
 -- read when select is high again; with select high throughout
 abbrev pub read_unselected : List Seen
 read_unselected = claimed (done low ∷ done (write (3 ∷ 0 ∷ 0 ∷ 5 ∷ [])) ∷ done high ∷ got (read 2) both_bytes ∷ [])
@@ -149,6 +171,13 @@ written_back = claimed (programmed_at 5 ++ piece_at 5 both_bytes 2)
 abbrev pub written_quad : List Seen
 written_quad = claimed (quad_programmed ++ quad_piece 0x6B 5 both_bytes 2)
 
+-- its command and its data cut otherwise into writes
+abbrev pub written_at_once : List Seen
+written_at_once = claimed (framed ((2 ∷ 0 ∷ 0 ∷ 5 ∷ 161 ∷ 178 ∷ []) ∷ []) ++ piece_at 5 both_bytes 2)
+
+abbrev pub written_in_three : List Seen
+written_in_three = claimed (framed ((2 ∷ 0 ∷ []) ∷ (0 ∷ 5 ∷ 161 ∷ []) ∷ (178 ∷ []) ∷ []) ++ piece_at 5 both_bytes 2)
+
 -- not read back; read back otherwise, and taken for the data; read back from another place
 abbrev pub not_read_back : List Seen
 not_read_back = claimed (programmed_at 5)
@@ -172,6 +201,32 @@ never_written = claimed (piece_at 5 both_bytes 2)
 abbrev pub read_back_first : List Seen
 read_back_first = going_on (piece_at 5 both_bytes 2) low
 
+-- another page programmed beside it, command and data in one write, or cut otherwise; an erase behind the read-back
+abbrev pub hidden_program : List Seen
+hidden_program = claimed (programmed_at 5 ++ framed ((2 ∷ 0 ∷ 0 ∷ 9 ∷ 161 ∷ []) ∷ []) ++ piece_at 5 both_bytes 2)
+
+abbrev pub hidden_in_parts : List Seen
+hidden_in_parts = claimed (programmed_at 5 ++ framed ((2 ∷ 0 ∷ []) ∷ (0 ∷ 9 ∷ 161 ∷ []) ∷ []) ++ piece_at 5 both_bytes 2)
+
+abbrev pub erased_behind : List Seen
+erased_behind = claimed (programmed_at 5 ++ piece_at 5 both_bytes 2 ++ framed ((0x20 ∷ 0 ∷ 0 ∷ 5 ∷ []) ∷ []))
+
+-- a quad write behind another byte, or with an opcode that is not the caller's; one read back in its own frame
+abbrev pub behind_a_byte : List Seen
+behind_a_byte = claimed (done low ∷ done (write (6 ∷ [])) ∷ done (quad_write (0x32 ∷ 0 ∷ 0 ∷ 5 ∷ []) both_bytes) ∷ done high ∷ quad_piece 0x6B 5 both_bytes 2)
+
+abbrev pub other_quad_write : List Seen
+other_quad_write = claimed (quad_programmed ++ quad_piece 0x6B 5 both_bytes 2 ++ done low ∷ done (quad_write (0x20 ∷ 0 ∷ 0 ∷ 5 ∷ []) []) ∷ done high ∷ [])
+
+abbrev pub back_in_one_frame : List Seen
+back_in_one_frame = claimed (done low ∷ done (quad_write (0x32 ∷ 0 ∷ 0 ∷ 5 ∷ []) both_bytes) ∷ got (quad_read (0x6B ∷ 0 ∷ 0 ∷ 5 ∷ []) 8 0 2) both_bytes ∷ done high ∷ [])
+
+-- ---- what the chip has answered
+
+-- a chip that holds the two bytes at 5 and 6
+abbrev pub holding : ℕ → ℕ
+holding place = if place == 5 then 161 else if place == 6 then 178 else 0
+
 -- ---- the statement
 
 abbrev pub quad : Option NorQuadConfig
@@ -182,6 +237,7 @@ pub record ShamRunsFail : Type 0 where
   pub whole : ReadSeen None read_whole 5 2
   pub in_pieces : ReadSeen None read_in_pieces 5 2
   pub by_quad : ReadSeen quad read_quad 5 2
+  pub after_pause : ReadSeen None read_after_pause 5 2
   -- sham reads
   pub no-traffic : ReadSeen None no_traffic 5 2 → ⊥
   pub rest-claimed : ReadSeen None rest_claimed 5 2 → ⊥
@@ -194,6 +250,10 @@ pub record ShamRunsFail : Type 0 where
   pub byte-ahead : ReadSeen None byte_ahead 5 2 → ⊥
   pub longer-command : ReadSeen None longer_command 5 2 → ⊥
   pub byte-ahead-of-quad : ReadSeen quad byte_ahead_of_quad 5 2 → ⊥
+  pub second-command : ReadSeen None second_command 5 2 → ⊥
+  pub command-behind-quad : ReadSeen quad command_behind_quad 5 2 → ⊥
+  pub reads-on : ReadSeen None reads_on 5 2 → ⊥
+  pub erased-and-read : ReadSeen None erased_and_read 5 2 → ⊥
   pub read-unselected : ReadSeen None read_unselected 5 2 → ⊥
   pub never-selected : ReadSeen None never_selected 5 2 → ⊥
   pub status-for-contents : ReadSeen None status_for_contents 5 2 → ⊥
@@ -201,6 +261,8 @@ pub record ShamRunsFail : Type 0 where
   -- lawful writes
   pub back : WriteSeen None written_back 5 2
   pub back_by_quad : WriteSeen quad written_quad 5 2
+  pub back_at_once : WriteSeen None written_at_once 5 2
+  pub back_in_three : WriteSeen None written_in_three 5 2
   -- sham writes
   pub not-read-back : WriteSeen None not_read_back 5 2 → ⊥
   pub not-compared : WriteSeen None not_compared 5 2 → ⊥
@@ -209,3 +271,12 @@ pub record ShamRunsFail : Type 0 where
   pub other-command : WriteSeen None other_command 5 2 → ⊥
   pub never-written : WriteSeen None never_written 5 2 → ⊥
   pub read-back-first : WriteSeen None read_back_first 5 2 → ⊥
+  pub hidden-program : WriteSeen None hidden_program 5 2 → ⊥
+  pub hidden-in-parts : WriteSeen None hidden_in_parts 5 2 → ⊥
+  pub erased-behind : WriteSeen None erased_behind 5 2 → ⊥
+  pub behind-a-byte : WriteSeen quad behind_a_byte 5 2 → ⊥
+  pub other-quad-write : WriteSeen quad other_quad_write 5 2 → ⊥
+  pub back-in-one-frame : WriteSeen quad back_in_one_frame 5 2 → ⊥
+  -- a chip has answered the lawful read so, and every chip that has holds these bytes at the places that were asked for
+  pub answers : FromChip holding (pieces_in None read_whole)
+  pub holds : (contents : ℕ → ℕ) → FromChip contents (pieces_in None read_whole) → (contents 5 ≡ 161) × (contents 6 ≡ 178)
