@@ -16,6 +16,7 @@ use Rattle.spi_flash.specs.Loan.{Lent, ready_of, exchange_for}
 use Rattle.spi_flash.specs.Range.{range_in_bounds}
 use Rattle.spi_flash.specs.Replying as Replying
 use Rattle.spi_flash.specs.Run.{Event, reply, Given, act, ended, failed, refused, run_of, call_of, goes_on}
+use Rattle.spi_flash.specs.Seen.{Undisturbed}
 use Rattle.spi_flash.specs.Settling.{settled}
 use Rattle.spi_flash.specs.Wait.{first_wait, next_wait}
 use Rattle.spi_nor.specs.Config.{in_bounds_of, single_config}
@@ -31,7 +32,7 @@ use Rattle.nor_driver.specs.Wait.{latched_then, resume_task, wait_then, writing_
 use Rattle.spi_nor.specs.declared.call.Call.{Call}
 use Rattle.spi_nor.specs.declared.answer.Answer.{Answer}
 use Rattle.spi_nor.specs.declared.setup.Setup.{Setup}
-use Rattle.flash_runs.specs.Contents.{steps}
+use Rattle.flash_runs.specs.Contents.{buffer_after, steps}
 use Rattle.flash_runs.specs.Reading.{bytes_read}
 use Rattle.flash_runs.specs.Shams.{Subject, in_place, ClaimsAll, Succeeds}
 use Rattle.nor_runs.specs.Program.{Left}
@@ -39,7 +40,11 @@ use Rattle.nor_runs.specs.Run.{nor_driver}
 use Rattle.nor_runs.specs.Shams.{Memory}
 use Rattle.flash_runs.specs.Watch.{watched, Succeeded}
 use Rattle.nor_runs.specs.Chip.{DeliversTheChip}
-use Rattle.nor_runs.specs.ShamReads.{misreading, uncompared, ShamReadsFail}
+use Rattle.nor_runs.specs.ShamReads.{misreading, uncompared, unfilled, ShamReadsFail}
+
+abbrev first : List ℕ → ℕ
+first [] = 0
+first (x ∷ xs) = x
 
 -- ---- every piece read from place 0
 
@@ -65,6 +70,15 @@ misreading-fails h =
     let next = (h.read built 5 one_place (done one_place ∷ done one_place ∷ [])).seen.next in
     omega (arith, next)
 
+-- ---- the buffer left full of zeros
+
+-- the byte that has come is 1
+unfilled-fails : DeliversTheChip unfilled → ⊥
+unfolding watched Succeeded Undisturbed buffer_after run_of call_of goes_on begins at_rest begun opened settled entry_of Replying.steps opening_of read_then read_from range_in_bounds in_bounds_of place_of chunk_of read_transfer first_of action_of exchange_for exchange_of ready_of fits_of advanced_of taken_in given_scratch with_command delivered_by next_of after_phase
+unfilled-fails h =
+    let delivers = (h.read built 5 one_place (done one_place ∷ done one_place ∷ got (1 ∷ []) one_place ∷ done one_place ∷ [])).delivers (λ place. 1) (refl, tt) in
+    omega (arith, ap first (delivers.fills tt (refl, (refl, (refl, (refl, (refl, tt)))))))
+
 -- ---- a page that reads back otherwise passes
 
 -- a part with a page of one byte, which is written as 1 and reads back as 0
@@ -89,10 +103,6 @@ unfolding watched Succeeded call_of goes_on begins at_rest begun opened settled 
 uncompared-fails h =
     let same = ((h.write small_page 0 one_byte writing).ended tt).as_lent tt in
     omega (arith, ap first same.0)
-  where
-    first : List ℕ → ℕ
-    first [] = 0
-    first (x ∷ xs) = x
 
 -- ---- a driver that claims every success at once
 
@@ -115,4 +125,4 @@ module _ (sham : Subject Memory Call Setup Answer) (claims : ClaimsAll (in_place
   claiming = no_byte first_given refl (claims sham.fresh (Call.Read 0) one_place)
 
 pub sham-reads-fail : ShamReadsFail
-sham-reads-fail = record { misreading = misreading-fails; uncompared = uncompared-fails; claiming = claiming }
+sham-reads-fail = record { misreading = misreading-fails; unfilled = unfilled-fails; uncompared = uncompared-fails; claiming = claiming }

@@ -37,6 +37,7 @@ sham-runs-fail = record {
   no-traffic = λ h. omega (arith, h.whole tt);
   rest-claimed = λ h. omega (arith, h.whole tt);
   after_pause = record { in_turn = (refl, omega arith, tt); next = tt; within = omega arith; all = refl; unchanged = refl; whole = λ e. refl };
+  erases_nothing = record { in_turn = (refl, omega arith, tt); next = tt; within = omega arith; all = refl; unchanged = refl; whole = λ e. refl };
   second-command = λ h. omega (arith, ap length h.all);
   command-behind-quad = λ h. omega (arith, ap length h.all);
   reads-on = λ h. omega (arith, ap length h.all);

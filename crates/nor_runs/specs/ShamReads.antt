@@ -1,7 +1,8 @@
 -- Sham NOR drivers that go to the bus as the driver does, but for one lie (docs/SPECIFICATION.md, "Shams"): none of them delivers what the
 -- chip holds, or has read back what it says it has.
-use Rattle.std.specs.Prelude.{ℕ, ◌==◌, List, [], ◌∷◌, if◌then◌else◌}
+use Rattle.std.specs.Prelude.{ℕ, ◌==◌, List, [], ◌∷◌, length, replicate, if◌then◌else◌}
 use Rattle.qspi.specs.Shown.{write}
+use Rattle.spi_flash.specs.Loan.{Lent}
 use Rattle.spi_flash.specs.Run.{Given, act, ended, failed}
 use Rattle.spi_flash.specs.declared.error.FlashError.{FlashError}
 use Rattle.flash_runs.specs.Driver.{leaving, Driver}
@@ -29,6 +30,14 @@ misled given = given
 abbrev pub misreading : Driver SpiNorFlash Call Setup Answer
 misreading = altered nor_driver (λ m. record { given = misled m.given; flash = m.flash; left = m.left })
 
+-- ---- the caller's buffer left as it was, full of zeros
+
+abbrev pub zeros : Lent → Lent
+zeros l = record l { buffer = replicate (length l.buffer) 0 }
+
+abbrev pub unfilled : Driver SpiNorFlash Call Setup Answer
+unfilled = altered nor_driver (λ m. record { given = m.given; flash = m.flash; left = zeros m.left })
+
 -- ---- a page that reads back otherwise passes
 
 abbrev pub passed : Setup → Given Left → Given Left
@@ -42,6 +51,8 @@ uncompared = altered nor_driver (λ m. record { given = passed m.flash.setup m.g
 
 pub record ShamReadsFail : Type 0 where
   pub misreading : DeliversTheChip misreading → ⊥
+  -- all of its traffic is lawful
+  pub unfilled : DeliversTheChip unfilled → ⊥
   pub uncompared : DeliversTheChip uncompared → ⊥
   -- success with no traffic
   pub claiming : (sham : Subject Memory Call Setup Answer) → ClaimsAll (in_place nor_driver sham) → DeliversTheChip (in_place nor_driver sham) → ⊥

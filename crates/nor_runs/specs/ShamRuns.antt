@@ -86,6 +86,11 @@ read_quad = claimed (quad_piece 0x6B 5 both_bytes 2)
 abbrev pub read_after_pause : List Seen
 read_after_pause = claimed (done low ∷ done (write (3 ∷ 0 ∷ 0 ∷ 5 ∷ [])) ∷ done (delay 1) ∷ got (read 2) both_bytes ∷ done high ∷ [])
 
+-- an erase where the chip takes none: with select high, and behind a read
+abbrev pub no_erase : List Seen
+no_erase =
+    claimed (done (write (0x20 ∷ 0 ∷ 0 ∷ 5 ∷ [])) ∷ done low ∷ done (write (3 ∷ 0 ∷ 0 ∷ 5 ∷ [])) ∷ got (read 2) both_bytes ∷ done (write (0x20 ∷ 0 ∷ 0 ∷ 5 ∷ [])) ∷ done high ∷ [])
+
 -- success with no traffic
 abbrev pub no_traffic : List Seen
 no_traffic = claimed []
@@ -238,6 +243,7 @@ pub record ShamRunsFail : Type 0 where
   pub in_pieces : ReadSeen None read_in_pieces 5 2
   pub by_quad : ReadSeen quad read_quad 5 2
   pub after_pause : ReadSeen None read_after_pause 5 2
+  pub erases_nothing : ReadSeen None no_erase 5 2
   -- sham reads
   pub no-traffic : ReadSeen None no_traffic 5 2 → ⊥
   pub rest-claimed : ReadSeen None rest_claimed 5 2 → ⊥

@@ -54,13 +54,14 @@ pub fn nor_never_wraps()
 {}
 
 /// What is seen on the bus tells sham runs from lawful ones: a piece read at the offset again, bytes of another address, a command that the
-/// chip takes otherwise, a page not read back, not compared, or read back from another place than it was written to.
+/// chip takes otherwise, a page not read back, not compared, or read back from another place than it was written to, another page
+/// programmed beside it, however the bytes are cut into writes, or an erase.
 pub fn nor_sham_runs_fail()
     ensures { ShamRunsFail }
 {}
 
-/// No sham driver delivers the chip: one that reads every piece from place 0, passes a page that reads back otherwise, or claims success
-/// with no traffic.
+/// No sham driver delivers the chip: one that reads every piece from place 0, leaves the buffer full of zeros, passes a page that reads
+/// back otherwise, or claims success with no traffic.
 pub fn nor_sham_reads_fail()
     ensures { ShamReadsFail }
 {}
