@@ -16,7 +16,7 @@ use Rattle.qspi.proofs.Cases.{by_cases}
 use Rattle.qspi.proofs.Filler.{filler-most}
 use Rattle.qspi.specs.Frame.{Outcome, first_of, action_of, next_stage, frame_at, moved_on, advanced_at, advanced_of, taken_in, gave, exchange_of, with_payload, scratch_at, given_scratch}
 use Rattle.qspi.specs.ShownBytes.{payload_bytes, start_shown, shown_at}
-use Rattle.qspi.proofs.Sent.{shown-bytes}
+use Rattle.qspi.proofs.Sent.{longest, shown-bytes}
 use Rattle.qspi.specs.declared.bus.Reply.{Reply}
 use Rattle.qspi.specs.declared.command.Command as Declared
 use Rattle.qspi.specs.declared.transfer.Payload.{Payload}
@@ -133,13 +133,13 @@ module _ (all : Payloads) {A : Type 0} (k : ℕ → Prog A) where
     after-start : (t : Transfer) (o : Outcome) → FramedAt Stage.Start t frame → Pays all p (ask t k) → PutsBy (moved_on t (next_stage t Stage.Start) o)
     after-start Transfer.Raise o f h = pays-on p o h
     after-start (Transfer.Pause us) o f h = pays-on p o h
-    after-start (Transfer.Framed c Body.None) o f h = rw f (puts-command c s long, record { framed = command-written c; pays = h })
-    after-start (Transfer.Framed c (Body.Read n sink)) o f h = rw f (puts-command c s long, record { framed = command-written c; pays = h })
-    after-start (Transfer.Framed c (Body.Write payload)) o f h = rw f (puts-command c s long, record { framed = command-written c; pays = h })
-    after-start (Transfer.Framed c (Body.QuadRead tclqv margin n sink)) o f h = rw f (puts-command c s long, record { framed = tt; pays = h })
+    after-start (Transfer.Framed c Body.None) o f h = rw f ((longest c, puts-command c s long), record { framed = command-written c; pays = h })
+    after-start (Transfer.Framed c (Body.Read n sink)) o f h = rw f ((longest c, puts-command c s long), record { framed = command-written c; pays = h })
+    after-start (Transfer.Framed c (Body.Write payload)) o f h = rw f ((longest c, puts-command c s long), record { framed = command-written c; pays = h })
+    after-start (Transfer.Framed c (Body.QuadRead tclqv margin n sink)) o f h = rw f ((longest c, puts-command c s long), record { framed = tt; pays = h })
     after-start (Transfer.Framed c (Body.QuadWrite payload)) o f h =
         let put = pays-payload p payload given (with_command (command_bytes c) s) (rw (length-sets s 0 (command_bytes c)) long) h in
-        rw (f, puts-command c s long) (put.0, record { framed = tt; pays = put.1 })
+        rw (f, puts-command c s long) ((longest c, put.0), record { framed = tt; pays = put.1 })
 
     after-command : (t : Transfer) (o : Outcome) → FramedAt Stage.Command t frame → Pays all p (ask t k) → PutsBy (moved_on t (next_stage t Stage.Command) o)
     after-command Transfer.Raise o f h = raised Transfer.Raise o (pays-on p o h)

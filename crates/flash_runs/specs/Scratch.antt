@@ -1,6 +1,6 @@
 -- The scratch and the caller's data over a run (docs/SPECIFICATION.md, "Lent memory"): what a step puts into the scratch is told from the
 -- bytes that it gives out, and each other place keeps its byte.
-use Rattle.std.specs.Prelude.{ℕ, ◌≤◌, ◌≡◌, List, [], ◌∷◌, set, replicate}
+use Rattle.std.specs.Prelude.{ℕ, ◌≤◌, ◌≡◌, List, [], ◌∷◌, length, set, replicate}
 use Rattle.std.proofs.lemmas.List.Edits.{sets}
 use Rattle.std.proofs.Math.Seq.{paste}
 use Rattle.qspi.specs.Bytes.{part_of}
@@ -56,9 +56,16 @@ PutsPayload (stamps (x ∷ xs)) bytes given before after = PutsStamp x bytes bef
 
 -- ---- one step
 
+-- a command has five bytes at most
+abbrev pub IsShort : List ℕ → Type 0
+IsShort command = length command ≤ 5
+
+abbrev pub PutsCommand : (command before after : List ℕ) → Type 0
+PutsCommand command before after = IsShort command × (after ≡ with_command command before)
+
 -- the first write since select went low is the command, and at most one more follows; nothing is written while select is high
 abbrev pub PutsWrite : BusFrame → Payloads → (bytes given before after : List ℕ) → Type 0
-PutsWrite selected payloads bytes given before after = after ≡ with_command bytes before
+PutsWrite selected payloads bytes given before after = PutsCommand bytes before after
 PutsWrite (commanded command) payloads bytes given before after = PutsPayload payloads bytes given before after
 PutsWrite _ payloads bytes given before after = ⊥
 
@@ -78,8 +85,8 @@ Puts low frame payloads given before after = after ≡ before
 Puts high frame payloads given before after = after ≡ before
 Puts (write bytes) frame payloads given before after = PutsWrite frame payloads bytes given before after
 Puts (read n) frame payloads given before after = Behind frame (after ≡ before)
-Puts (quad_read command tclqv margin n) frame payloads given before after = Alone frame (after ≡ with_command command before)
-Puts (quad_write command payload) frame payloads given before after = Alone frame (PutsPayload payloads payload given (with_command command before) after)
+Puts (quad_read command tclqv margin n) frame payloads given before after = Alone frame (PutsCommand command before after)
+Puts (quad_write command payload) frame payloads given before after = Alone frame (IsShort command × PutsPayload payloads payload given (with_command command before) after)
 Puts (delay us) frame payloads given before after = after ≡ before
 
 -- an end and a refusal put nothing

@@ -12,7 +12,7 @@ use Rattle.spi_flash.specs.declared.error.FlashError.{FlashError}
 use Rattle.spi_flash.proofs.Laws.{bind_assoc}
 use Rattle.flash_runs.proofs.General.{place}
 use Rattle.spi_nand.specs.Opcode.{REG-CONFIGURATION, REG-BLOCK-PROTECTION}
-use Rattle.spi_nand.specs.Status.{configuration_of, configuration_byte, same_configuration, protection_of, is_unlocked}
+use Rattle.spi_nand.specs.Status.{configuration_of, configuration_byte, protection_of, is_unlocked}
 use Rattle.spi_nand.specs.declared.config.NandGeometry.{NandGeometry}
 use Rattle.spi_nand.specs.declared.config.NandInit.{NandInit}
 use Rattle.spi_nand.specs.declared.config.NandJedecId.{NandJedecId}
@@ -27,7 +27,7 @@ use Rattle.spi_nand.specs.declared.phase.Phase.{Phase}
 use Rattle.spi_nand.specs.declared.setup.Setup.{Setup}
 use Rattle.nand_steps.specs.Register.{geometry_at, geometry_for}
 use Rattle.nand_driver.specs.Call.{given_at, fresh_setup}
-use Rattle.nand_runs.specs.Rust.{Nothing, MAX-VERIFY-PAGE-SIZE, wanted-of, read-configuration, read-protection, write-register, reset, jedec-id, reset-and-identify, ensure-configuration, unprotect, bring-up}
+use Rattle.nand_runs.specs.Rust.{equals, Nothing, MAX-VERIFY-PAGE-SIZE, wanted-of, read-configuration, read-protection, write-register, reset, jedec-id, reset-and-identify, ensure-configuration, unprotect, bring-up}
 use Rattle.nand_runs.proofs.AsCoded.{resolved, constructed, with-config}
 use Rattle.nand_runs.specs.Program.{Left, page_taken, refused-page, rust_program}
 use Rattle.nand_runs.proofs.AsCoded.{coded, coded_rust}
@@ -45,9 +45,9 @@ module _ (config : SpiNandConfig) (id : NandJedecId) (g : NandGeometry) where
 
   abbrev configuring : Configuration → Prog Nothing
   configuring before =
-      if not (same_configuration (wanted-of config before) before)
+      if not (equals (wanted-of config before) before)
       then (write-register REG-CONFIGURATION (configuration_byte (wanted-of config before))
-      >> (read-configuration >>= (λ after. refuse (not (same_configuration after (wanted-of config before))) FlashError.NotSupported)))
+      >> (read-configuration >>= (λ after. refuse (not (equals after (wanted-of config before))) FlashError.NotSupported)))
       else ret tt
 
   abbrev unlocking : Protection → Prog Nothing

@@ -21,7 +21,7 @@ use Rattle.spi_flash.proofs.Laws.{ends-ret, ends-bind, ends-then, ends-eq, ends-
 use Rattle.spi_flash.proofs.Loops.{ends-loop}
 use Rattle.spi_flash.proofs.Replies.{byte, zeros, delivery, same_bytes}
 use Rattle.spi_nand.specs.Config.{in_bounds}
-use Rattle.spi_nand.specs.Status.{WRITE-ENABLED, QUAD-ENABLE, OPERATIONAL, BLOCK-PROTECT-MASK, configuration_byte, write_enabled_of, erase_failed_of, program_failed_of, verdict_of, status_of, configuration_of, protection_of, quad_enabled_of, with_bits, same_configuration, block_protect_bits, is_unlocked}
+use Rattle.spi_nand.specs.Status.{WRITE-ENABLED, QUAD-ENABLE, OPERATIONAL, BLOCK-PROTECT-MASK, configuration_byte, write_enabled_of, erase_failed_of, program_failed_of, verdict_of, status_of, configuration_of, protection_of, quad_enabled_of, with_bits, block_protect_bits, is_unlocked}
 use Rattle.spi_nand.specs.declared.config.NandInit.{NandInit}
 use Rattle.spi_nand.specs.declared.config.SpiNandConfig.{SpiNandConfig}
 use Rattle.spi_nand.specs.declared.opcode.Operation.{Operation}
@@ -29,7 +29,7 @@ use Rattle.spi_nand.proofs.Geometries.{geometries-hold}
 use Rattle.spi_nand.specs.Setup.{init_of}
 use Rattle.spi_nand.specs.Transfer.{cache_read_at, cache_read_transfer, cache_load_at, cache_load_transfer, in_cache, in_range}
 use Rattle.spi_nand.specs.declared.setup.Setup.{Setup}
-use Rattle.nand_runs.specs.Rust.{MAX-VERIFY-PAGE-SIZE, read-register, read-status, read-configuration, read-protection, write-enable, write-register, disable-quad, reset, id-of, jedec-id, reset-and-identify, wait-ready, wanted-of, ensure-configuration, unprotect, bring-up, load-page}
+use Rattle.nand_runs.specs.Rust.{equals, MAX-VERIFY-PAGE-SIZE, read-register, read-status, read-configuration, read-protection, write-enable, write-register, disable-quad, reset, id-of, jedec-id, reset-and-identify, wait-ready, wanted-of, ensure-configuration, unprotect, bring-up, load-page}
 use Rattle.nand_runs.proofs.AsCoded.{page-read, read-cache, load-program-data, program-execute, read-page, write-page, erase-block, reading, read, is-bad-block, filling, mark-bad-block, resolved, constructed, with-config}
 use Rattle.nand_runs.specs.Program.{page_taken, refused-page}
 use Rattle.nand_runs.specs.Bound.{pages_touched, fillers}
@@ -98,13 +98,13 @@ module _ (given : List ℕ) where
 
   -- configuration 00 becomes operational, with quad where that is asked for
   pub ends-ensure : (config : SpiNandConfig) → Ends given delays 10000 (configuration_of 0) (ensure-configuration config)
-  unfolding ensure-configuration with_bits same_configuration
+  unfolding ensure-configuration with_bits equals
   ends-ensure config = by config.quad
     where
       -- the wanted byte comes back
       becomes : (q : Option NandQuadConfig) (after : ℕ) → after < 256 →
-          not (same_configuration (wanted-of (record { quad = q; geometry = config.geometry }) (configuration_of 0)) (configuration_of 0)) ≡ true →
-          not (same_configuration (configuration_of (after % 256)) (wanted-of (record { quad = q; geometry = config.geometry }) (configuration_of 0))) ≡ false →
+          not (equals (wanted-of (record { quad = q; geometry = config.geometry }) (configuration_of 0)) (configuration_of 0)) ≡ true →
+          not (equals (configuration_of (after % 256)) (wanted-of (record { quad = q; geometry = config.geometry }) (configuration_of 0))) ≡ false →
           Ends given delays 10000 (configuration_of 0) (ensure-configuration (record { quad = q; geometry = config.geometry }))
       becomes q after small other same =
           ends-bind _ {c = 10000} (ends-configuration 0 (lit< tt))

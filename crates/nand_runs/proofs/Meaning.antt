@@ -13,7 +13,7 @@ use Rattle.spi_flash.specs.declared.error.FlashError.{FlashError}
 use Rattle.spi_nand.specs.Command.{get_feature_command, set_feature_command, block_erase_command}
 use Rattle.spi_nand.specs.Config.{first_page_of}
 use Rattle.spi_nand.specs.Opcode.{REG-STATUS, REG-CONFIGURATION, REG-BLOCK-PROTECTION, timings_of}
-use Rattle.spi_nand.specs.Status.{busy_value, status_of, write_enabled_of, erase_failed_of, program_failed_of, verdict_of, QUAD-ENABLE, configuration_of, configuration_byte, quad_enabled_of, with_bits, same_configuration, protection_of, is_unlocked}
+use Rattle.spi_nand.specs.Status.{busy_value, status_of, write_enabled_of, erase_failed_of, program_failed_of, verdict_of, QUAD-ENABLE, configuration_of, configuration_byte, quad_enabled_of, with_bits, protection_of, is_unlocked}
 use Rattle.spi_nand.specs.declared.config.NandJedecId.{NandJedecId}
 use Rattle.spi_nand.specs.declared.opcode.Operation.{Operation}
 use Rattle.spi_nand.specs.declared.status.Configuration.{Configuration}
@@ -36,7 +36,7 @@ use Rattle.spi_nand.specs.declared.phase.ResetFor.{ResetFor}
 use Rattle.spi_nand.specs.declared.phase.Task.{Task}
 use Rattle.spi_nand.specs.declared.setup.Setup.{Setup}
 use Rattle.nand_steps.specs.Register.{geometry_for}
-use Rattle.nand_runs.specs.Rust.{Nothing, MAX-VERIFY-PAGE-SIZE, id-of, wanted-of, uncorrectable, read-status, read-configuration, read-protection, wait-ready, write-enable, write-register, reset, jedec-id}
+use Rattle.nand_runs.specs.Rust.{equals, Nothing, MAX-VERIFY-PAGE-SIZE, id-of, wanted-of, uncorrectable, read-status, read-configuration, read-protection, wait-ready, write-enable, write-register, reset, jedec-id}
 use Rattle.nand_runs.proofs.AsCoded.{read-cache, load-program-data, program-execute, read-page, erase-block, reading, is-bad-block, filling}
 use Rattle.flash_runs.proofs.Looking.{looked}
 use Rattle.flash_runs.specs.Driver.{leaving}
@@ -146,11 +146,11 @@ configured s before false = ret (leaving s (Answer.Configuration before))
 configured s before true = read-protection >>= unprotect-on (with_before s before) true
 
 unfoldable pub check-configured : Setup → Configuration → Configuration → Prog Nothing
-check-configured s before after = refuse (not (same_configuration after (wanted-of s.config before))) FlashError.NotSupported
+check-configured s before after = refuse (not (equals after (wanted-of s.config before))) FlashError.NotSupported
 
 unfoldable pub configure-on : Setup → Bool → Configuration → Prog Left
 configure-on s within before =
-    (if not (same_configuration (wanted-of s.config before) before)
+    (if not (equals (wanted-of s.config before) before)
     then (write-register REG-CONFIGURATION (configuration_byte (wanted-of s.config before)) >> (read-configuration >>= check-configured s before))
     else ret tt)
     >> configured s before within

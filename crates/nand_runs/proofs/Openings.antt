@@ -16,7 +16,7 @@ use Rattle.flash_runs.specs.Driver.{leaving}
 use Rattle.spi_nand.specs.Command.{reset_command}
 use Rattle.spi_nand.specs.Config.{page_count_of, in_bounds, first_page_of}
 use Rattle.spi_nand.specs.Opcode.{REG-STATUS, REG-CONFIGURATION, REG-BLOCK-PROTECTION}
-use Rattle.spi_nand.specs.Status.{configuration_of, configuration_byte, same_configuration, protection_of, is_unlocked}
+use Rattle.spi_nand.specs.Status.{configuration_of, configuration_byte, protection_of, is_unlocked}
 use Rattle.spi_nand.specs.declared.status.Configuration.{Configuration}
 use Rattle.spi_nand.specs.declared.status.Protection.{Protection}
 use Rattle.spi_nand.specs.declared.answer.Answer.{Answer}
@@ -37,7 +37,7 @@ use Rattle.nand_steps.specs.Cache.{read_cache_then, load_program_then}
 use Rattle.nand_steps.specs.Page.{page_read_then, is_bad_then, program_then, read_page_then, write_page_then}
 use Rattle.nand_steps.specs.Read.{read_then}
 use Rattle.nand_steps.specs.Block.{erase_then}
-use Rattle.nand_runs.specs.Rust.{Nothing, wanted-of, read-status, read-configuration, read-protection, write-enable, write-register, disable-quad, reset, jedec-id, reset-and-identify, ensure-configuration, unprotect}
+use Rattle.nand_runs.specs.Rust.{equals, Nothing, wanted-of, read-status, read-configuration, read-protection, write-enable, write-register, disable-quad, reset, jedec-id, reset-and-identify, ensure-configuration, unprotect}
 use Rattle.nand_runs.proofs.AsCoded.{page-read, read-cache, load-program-data, program-execute, read-page, write-page, erase-block, read, is-bad-block, filling, mark-bad-block}
 use Rattle.nand_runs.specs.Program.{Left}
 use Rattle.nand_runs.proofs.Places.{decide}
@@ -94,9 +94,9 @@ module _ (s : Setup) where
     where
       writing : Configuration → Prog Nothing
       writing before =
-          if not (same_configuration (wanted-of s.config before) before)
+          if not (equals (wanted-of s.config before) before)
           then (write-register REG-CONFIGURATION (configuration_byte (wanted-of s.config before))
-          >> (read-configuration >>= (λ after. refuse (not (same_configuration after (wanted-of s.config before))) FlashError.NotSupported)))
+          >> (read-configuration >>= (λ after. refuse (not (equals after (wanted-of s.config before))) FlashError.NotSupported)))
           else ret tt
 
   pub unprotects : unprotect >>= (λ before. ret (leaving s (Answer.Protection before)))

@@ -8,6 +8,7 @@ use mathlib.Core.Path.{◌≡◌, refl, sym}
 use Rattle.std.specs.Prelude.{Option, Some, None}
 use Rattle.qspi.specs.Bytes.{number_of}
 use Rattle.spi_nand.specs.Config.{in_bounds, jedec_id_of}
+use Rattle.spi_nand.specs.Status.{same_configuration}
 use Rattle.spi_nand.specs.Transfer.{chunk_of, filler_of, cache_read_transfer, cache_load_transfer}
 use Rattle.spi_nand.specs.declared.config.NandGeometry.{NandGeometry}
 use Rattle.spi_nand.specs.declared.config.NandJedecId.{NandJedecId}
@@ -41,13 +42,17 @@ held None id = sym (known-same id)
 held (Some own) id = refl
 
 pub same-words : SameWords
-unfolding cache_read_transfer cache_load_transfer jedec_id_of geometry_for from_jedec looked_up
+unfolding same_configuration cache_read_transfer cache_load_transfer jedec_id_of geometry_for from_jedec looked_up
 same-words = record {
   inside = inside;
+  commands = λ command. refl;
+  numbers = λ command n. refl;
   registers = λ register. refl;
   identification = refl;
   reads = λ config column n sink. sym (read-same config.quad column n sink);
   loads = λ config column payload. sym (load-same config.quad column payload);
+  busy = λ b small. let e : b % 256 ≡ b = omega arith in rw e refl;
+  compared = λ a b. refl;
   bytes = λ a b c x y z.
       let n = number_of (a ∷ b ∷ c ∷ []) in
       let e : n ≡ a * 65536 + b * 256 + c = omega arith in

@@ -58,7 +58,7 @@ use Rattle.nand_steps.specs.Then.{Then}
 use Rattle.nand_driver.specs.Wait.{reset_then, resume_task, judge_task, wait_then, waiting_then}
 use Rattle.nand_driver.specs.Next.{enabled_then, latched_then, enabling_then, identify_then, answered_then, after_phase, next_of}
 use Rattle.spi_nand.specs.declared.config.NandJedecId.{NandJedecId}
-use Rattle.nand_runs.specs.Rust.{Nothing, MAX-VERIFY-PAGE-SIZE, quad-wanted, wanted-of, uncorrectable, read-status, read-configuration, read-protection, wait-ready, write-enable, write-register, reset, jedec-id, load-page}
+use Rattle.nand_runs.specs.Rust.{equals, Nothing, MAX-VERIFY-PAGE-SIZE, quad-wanted, wanted-of, uncorrectable, read-status, read-configuration, read-protection, wait-ready, write-enable, write-register, reset, jedec-id, load-page}
 use Rattle.nand_runs.proofs.AsCoded.{page-read, read-cache, load-program-data, program-execute, read-page, erase-block, reading, is-bad-block, filling}
 use Rattle.nand_runs.specs.Program.{Left}
 use Rattle.nand_runs.proofs.ReadLoop.{reading-loop}
@@ -226,7 +226,7 @@ same-wanted s before = at s.config.quad (with_bits before (bit_or ECC-ENABLE BUF
     at (Some q) c = refl
 
 configures-on : (s : Setup) (within : Bool) (before : Configuration) → configure-on s within before ≡ tree meaning (decide (configure_then s before within))
-unfolding configure-on configure_then written ◌>>=◌ ◌>>◌
+unfolding configure-on configure_then written equals same_configuration ◌>>=◌ ◌>>◌
 configures-on s within before = rw (same-wanted s before)
     (by_cases (same_configuration (wanted-of s.config before) before)
     (λ h. rw h (configures s before within))
@@ -234,7 +234,7 @@ configures-on s within before = rw (same-wanted s before)
 
 checks-configured : (s : Setup) (before : Configuration) (within : Bool) (after : Configuration) →
     check-configured s before after >> configured s before within ≡ tree meaning (decide (check_configuration s before within after))
-unfolding check-configured check_configuration refuse ◌>>=◌ ◌>>◌
+unfolding check-configured check_configuration equals same_configuration refuse ◌>>=◌ ◌>>◌
 checks-configured s before within after = rw (same-wanted s before)
     (by_cases (same_configuration after (wanted-of s.config before)) (λ h. rw h (configures s before within)) (λ h. rw h))
 

@@ -19,7 +19,7 @@ use Rattle.flash_runs.specs.Weight.{Figures}
 use Rattle.flash_runs.proofs.Weighing.{sunk, paid, Weighs}
 use Rattle.qspi.proofs.Cases.{by_cases}
 use Rattle.spi_nand.specs.Config.{single_config, in_bounds}
-use Rattle.spi_nand.specs.Status.{quad_enabled_of, same_configuration, is_unlocked}
+use Rattle.spi_nand.specs.Status.{quad_enabled_of, is_unlocked}
 use Rattle.spi_nand.specs.declared.config.SpiNandConfig.{SpiNandConfig}
 use Rattle.spi_nand.specs.declared.opcode.Operation.{Operation}
 use Rattle.spi_nand.specs.Transfer.{cache_read_at, cache_read_transfer, cache_load_at, cache_load_transfer}
@@ -28,7 +28,7 @@ use Rattle.spi_nand.specs.declared.setup.Setup.{Setup}
 use Rattle.nand_runs.specs.Bound.{pages_touched, fillers, task, enabling, writing, identifying, configuring, unprotecting, constructing, loading, programming, erasing, marking, weight_of}
 use Rattle.nand_runs.specs.Program.{refused-page, page_taken, rust_program}
 use Rattle.nand_runs.proofs.AsCoded.{coded_rust, coded}
-use Rattle.nand_runs.specs.Rust.{read-register, read-status, read-configuration, read-protection, wait-ready, write-enable, write-register, disable-quad, reset, jedec-id, reset-and-identify, wanted-of, ensure-configuration, unprotect, bring-up, load-page}
+use Rattle.nand_runs.specs.Rust.{equals, read-register, read-status, read-configuration, read-protection, wait-ready, write-enable, write-register, disable-quad, reset, jedec-id, reset-and-identify, wanted-of, ensure-configuration, unprotect, bring-up, load-page}
 use Rattle.nand_runs.proofs.AsCoded.{page-read, read-cache, load-program-data, program-execute, read-page, write-page, erase-block, reading, read, is-bad-block, filling, mark-bad-block, with-config}
 use Rattle.nand_runs.proofs.Pages.{some-page, in-range, page-turns, pages-first, filler-turns, fillers-enough}
 use Rattle.nand_runs.proofs.ReadLoop.{reading-pieces}
@@ -102,7 +102,7 @@ module _ {w : Transfer → ℕ} {x : Figures Operation} (figures : Weighs w x wa
       bounded-more (omega arith)
       (bounded-bind bounded-configuration
       (λ before. bounded-then {c = 0}
-      (bounded-if (not (same_configuration (wanted-of config before) before))
+      (bounded-if (not (equals (wanted-of config before) before))
       (bounded-then (bounded-write-register _ _) (bounded-bind bounded-configuration (λ after. bounded-refuse _ _)))
       bounded-ret)
       bounded-ret))

@@ -18,7 +18,7 @@ use Rattle.spi_flash.specs.Prog.{Prog, ret, ◌>>=◌, ◌>>◌, refuse, transfe
 use Rattle.spi_flash.specs.WaitLaw.{delayed_wait}
 use Rattle.spi_flash.specs.declared.error.FlashError.{FlashError}
 use Rattle.spi_nand.specs.Opcode.{REG-STATUS, REG-CONFIGURATION, REG-BLOCK-PROTECTION, timings_of}
-use Rattle.spi_nand.specs.Status.{busy_value, status_of, write_enabled_of, erase_failed_of, program_failed_of, verdict_of, ECC-ENABLE, BUFFER-READ, QUAD-ENABLE, OPERATIONAL, configuration_of, configuration_byte, quad_enabled_of, with_bits, same_configuration, protection_of, is_unlocked}
+use Rattle.spi_nand.specs.Status.{busy_value, status_of, write_enabled_of, erase_failed_of, program_failed_of, verdict_of, ECC-ENABLE, BUFFER-READ, QUAD-ENABLE, OPERATIONAL, configuration_of, configuration_byte, quad_enabled_of, with_bits, protection_of, is_unlocked}
 use Rattle.spi_nand.specs.Command.{reset_command, read_id_command, get_feature_command, set_feature_command, write_enable_command, page_read_command, program_execute_command, block_erase_command, read_cache_command, quad_read_cache_command, load_program_data_command, quad_load_program_data_command}
 use Rattle.spi_nand.specs.declared.config.NandGeometry.{NandGeometry}
 use Rattle.spi_nand.specs.declared.config.NandInit.{NandInit}
@@ -134,15 +134,19 @@ quad-wanted (Some q) wanted = with_bits wanted QUAD-ENABLE QUAD-ENABLE
 abbrev pub wanted-of : SpiNandConfig → Configuration → Configuration
 wanted-of config before = quad-wanted config.quad (with_bits before (bit_or ECC-ENABLE BUFFER-READ) (configuration_byte OPERATIONAL))
 
+-- `==` of the struct, which has one field, the byte
+unfoldable pub equals : Configuration → Configuration → Bool
+equals a b = eqb a.0 b.0
+
 unfoldable pub ensure-configuration : SpiNandConfig → Prog Configuration
 ensure-configuration config = do
   before ← read-configuration
   let wanted = wanted-of config before
-  if not (same_configuration wanted before)
+  if not (equals wanted before)
       then (do
         write-register REG-CONFIGURATION (configuration_byte wanted)
         after ← read-configuration
-        refuse (not (same_configuration after wanted)) FlashError.NotSupported)
+        refuse (not (equals after wanted)) FlashError.NotSupported)
       else ret tt
   ret before
 

@@ -1,14 +1,19 @@
 -- The driver and the transcription of the Rust name the same sums, pieces, tests and transfers twice, each in its own words. Inside the
 -- bounds (docs/SPECIFICATION.md, "Geometry") the driver's come to the Rust's.
-use Rattle.std.specs.Prelude.{ℕ, ◌+◌, ◌-◌, ◌*◌, ◌/◌, ◌%◌, ◌≤◌, ◌<◌, ◌≡◌, min, true, [], ◌∷◌}
+use Rattle.std.specs.Prelude.{ℕ, ◌+◌, ◌-◌, ◌*◌, ◌/◌, ◌%◌, ◌≤◌, ◌<◌, ◌≡◌, min, true, eqb, [], ◌∷◌}
 use Rattle.qspi.specs.Bytes.{number_of}
+use Rattle.qspi.specs.Transfer.{command_only}
+use Rattle.qspi.specs.declared.command.Command.{Command}
+use Rattle.qspi.specs.declared.transfer.Body.{Body}
 use Rattle.qspi.specs.declared.transfer.Payload.{Payload}
 use Rattle.qspi.specs.declared.transfer.Sink.{Sink}
+use Rattle.qspi.specs.declared.transfer.Transfer.{Transfer}
 use Rattle.spi_flash.specs.Number.{number_transfer}
 use Rattle.spi_nand.specs.Command.{read_id_command, get_feature_command}
 use Rattle.spi_nand.specs.Config as Config
 use Rattle.spi_nand.specs.Config.{in_bounds, jedec_id_of, block_size_of, page_count_of, capacity_of, cache_size_of, first_page_of, QUAD-W25N01GV, single_config, quad_config}
 use Rattle.spi_nand.specs.Datasheet as sheet
+use Rattle.spi_nand.specs.Status.{busy_value, busy_of, status_of, configuration_of, same_configuration}
 use Rattle.spi_nand.specs.Transfer.{register_transfer, id_transfer, cache_read_transfer, cache_load_transfer, in_cache, in_range, place_of, page_at, column_at, chunk_of, filler_of}
 use Rattle.spi_nand.specs.declared.config.NandGeometry.{NandGeometry}
 use Rattle.spi_nand.specs.declared.config.NandJedecId.{NandJedecId}
@@ -42,11 +47,18 @@ pub record SameIn (g : NandGeometry) : Type 0 where
 
 pub record SameWords : Type 0 where
   pub inside : (g : NandGeometry) → in_bounds g ≡ true → SameIn g
+  -- fn command and fn command_then_read: their frames
+  pub commands : (command : Command) → command_only command ≡ Transfer.Framed command Body.None
+  pub numbers : (command : Command) (n : ℕ) → number_transfer command n ≡ Transfer.Framed command (Body.Read n Sink.Number)
   -- fn read_register, fn jedec_id, fn read_cache, fn load_program_data: their frames
   pub registers : (register : ℕ) → register_transfer register ≡ number_transfer (get_feature_command register) 1
   pub identification : id_transfer ≡ number_transfer read_id_command 3
   pub reads : (config : SpiNandConfig) (column n : ℕ) (sink : Sink) → cache_read_transfer config column n sink ≡ cache-read config.quad column n sink
   pub loads : (config : SpiNandConfig) (column : ℕ) (payload : Payload) → cache_load_transfer config column payload ≡ cache-load config.quad column payload
+  -- fn wait_ready: the bit in the byte that was read
+  pub busy : (b : ℕ) → b < 256 → busy_value b ≡ busy_of (status_of b)
+  -- fn ensure_configuration: registers are compared by their whole bytes
+  pub compared : (a b : ℕ) → same_configuration (configuration_of a) (configuration_of b) ≡ eqb a b
   -- NandJedecId::from_bytes
   pub bytes : (a b c : ℕ) → a < 256 → b < 256 → c < 256 → id-of (number_of (a ∷ b ∷ c ∷ [])) ≡ jedec_id_of (a ∷ b ∷ c ∷ [])
   pub ids : (v : ℕ) → id_of v ≡ id-of v

@@ -13,6 +13,8 @@ use Rattle.nor_runs.proofs.Agrees.{range-same, multiple-same, place-same, read-s
 pub same-words : SameWords
 unfolding chunk_of page_of read_transfer program_transfer from_jedec looked_up
 same-words = record {
+  commands = λ command. refl;
+  numbers = λ command n. refl;
   ranges = λ capacity offset n. sym (range-same capacity offset n);
   multiples = λ n unit. sym (multiple-same n unit);
   most = refl;

@@ -3,7 +3,11 @@
 use Rattle.std.specs.Prelude.{ℕ, ◌+◌, ◌-◌, ◌*◌, ◌≤◌, ◌<◌, ◌≡◌, min, true, [], ◌∷◌}
 use Rattle.qspi.specs.Bytes.{number_of}
 use Rattle.qspi.specs.Transfer.{command_only}
+use Rattle.qspi.specs.declared.command.Command.{Command}
+use Rattle.qspi.specs.declared.transfer.Body.{Body}
 use Rattle.qspi.specs.declared.transfer.Sink.{Sink}
+use Rattle.qspi.specs.declared.transfer.Transfer.{Transfer}
+use Rattle.spi_flash.specs.Number.{number_transfer}
 use Rattle.spi_flash.specs.Range as Range
 use Rattle.spi_nor.specs.Command.{sector_erase_command, block_erase_command}
 use Rattle.spi_nor.specs.Config as Config
@@ -25,6 +29,9 @@ use Rattle.nor_runs.specs.RustConfig.{W25Q64JV, W25Q128JV, from_jedec, quad_defa
 use Rattle.nor_runs.specs.Rust.{MAX-VERIFY-PAGE-SIZE, MAX-BULK-LEN, is_multiple_of, range_in_bounds, erase_step, id-of, read-piece, program-piece, chunk_len, constructed}
 
 pub record SameWords : Type 0 where
+  -- fn command and fn command_then_read: their frames
+  pub commands : (command : Command) → command_only command ≡ Transfer.Framed command Body.None
+  pub numbers : (command : Command) (n : ℕ) → number_transfer command n ≡ Transfer.Framed command (Body.Read n Sink.Number)
   -- fn range_in_bounds, and is_multiple_of
   pub ranges : (capacity offset n : ℕ) → Range.range_in_bounds capacity offset n ≡ range_in_bounds capacity offset n
   pub multiples : (n unit : ℕ) → multiple_of n unit ≡ is_multiple_of n unit

@@ -62,7 +62,7 @@ outside first n i h = at (leb first i) refl
 
 -- ---- the command
 
-longest : (c : Command) → length (command_bytes c) ≤ 5
+pub longest : (c : Command) → length (command_bytes c) ≤ 5
 longest (Command.Opcode opcode) = omega arith
 longest (Command.Byte opcode byte) = omega arith
 longest (Command.RegisterValue opcode register value) = omega arith

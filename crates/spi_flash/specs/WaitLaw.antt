@@ -120,9 +120,9 @@ module _ (busy : ℕ → Bool) (limit : ℕ) where
   TakesTurns pausing sum seen (back t (Ok v) ∷ past) end = OnlyPause (wait_step t) (λ us. TakesTurns looking (sum + us) seen past end)
   TakesTurns pausing sum seen (back t (Err error) ∷ past) end = end ≡ failed (FlashError.Spi error.0)
 
--- what holds of a wait p over a row of a table
+-- what holds of a wait over a row of a table: of its loop behind the first delay, and of p, the whole wait
 pub record WaitLaw (status : Command) (busy : ℕ → Bool) (t : Timings) (p : Prog (Unit {0})) : Type 0 where
-  -- behind the first delay, if any, it takes turns
+  -- the loop, begun with the sum at the first delay, takes turns
   pub turns : Every (waiting status busy t t.initial_us) (TakesTurns busy t.timeout_us looking t.initial_us 0)
   -- the largest requested sum, and that replies bring it there
   pub bound : Bounded delays (largest_sum t) p
