@@ -7,6 +7,7 @@ pub mod Heeding
 pub mod SameAsRust
 pub mod Built
 pub mod Shams
+pub mod LentShams
 pub mod Driver
 pub mod System
 pub mod Reading

@@ -36,5 +36,6 @@ pub mod SeenSteps
 pub mod ReadPromises
 pub mod Promises
 pub mod Shams
+pub mod LentShams
 pub mod ShamDrivers
 pub mod Chip

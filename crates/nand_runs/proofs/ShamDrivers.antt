@@ -52,6 +52,7 @@ use Rattle.nand_runs.specs.ReadSeen.{up_from, touched}
 use Rattle.nand_runs.specs.Rust.{with-config, bring-up, reset-and-identify, reset}
 use Rattle.nand_runs.specs.Run.{sort_of, nand_driver}
 use Rattle.nand_runs.specs.ShamDrivers.{Memory, hasty, rest_claimed, NandShamsFail}
+use Rattle.nand_runs.proofs.LentShams.{lent-shams-fail}
 use Rattle.nand_runs.proofs.Promises.{nand-promises}
 
 -- a driver that is built
@@ -279,6 +280,7 @@ constructible = record {
 pub nand-shams-fail : NandShamsFail
 nand-shams-fail = record {
   general = shams-fail nand_driver Memory Call.New (lending []) constructible nand-promises.general.within_bound;
+  lent = lent-shams-fail;
   claiming = claiming-fails;
   rest_beside_rust = rest-beside-rust;
   rest_on_bus = rest-on-bus;

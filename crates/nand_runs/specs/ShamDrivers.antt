@@ -14,6 +14,7 @@ use Rattle.spi_nand.specs.declared.setup.Setup.{Setup}
 use Rattle.flash_runs.specs.Driver.{leaving, Driver}
 use Rattle.flash_runs.specs.Refusals.{ToldByHistory}
 use Rattle.flash_runs.specs.SameAsRust.{SameAsRust}
+use Rattle.flash_runs.specs.LentShams.{LentShamsFail}
 use Rattle.flash_runs.specs.Shams.{Subject, in_place, altered, one_result, ClaimsAll, ShamsFail}
 use Rattle.nand_driver.specs.Settle.{SpiNandFlash, flash_of}
 use Rattle.nand_runs.specs.Program.{Left}
@@ -57,6 +58,8 @@ rest_claimed =
 pub record NandShamsFail : Type 0 where
   -- every request refused; success with no traffic; running for ever; a bound that is no sum
   pub general : ShamsFail nand_driver Memory
+  -- lent bytes written where they must not be, select left low, errors and refusals with another code, refusals that change something
+  pub lent : LentShamsFail nand_driver
   -- success with no traffic, told from the bus
   pub claiming : (sham : Subject Memory Call Setup Answer) → ClaimsAll (in_place nand_driver sham) → ToldByHistory (in_place nand_driver sham) →
       ReadsAsAsked (in_place nand_driver sham) → ⊥

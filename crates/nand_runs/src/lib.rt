@@ -32,7 +32,8 @@ pub fn nand_delivers_the_chip()
 {}
 
 /// No sham driver keeps the promises: one that refuses every request, claims success with no traffic, loads the first page and claims the
-/// rest, runs for ever, gives up before it looks, gives the same result whatever was read, or has a bound that is no sum of its delays.
+/// rest, runs for ever, gives up before it looks, gives the same result whatever was read, has a bound that is no sum of its delays, spoils
+/// lent bytes, leaves select low, or says other codes of errors and refusals.
 pub fn nand_shams_fail()
     ensures { NandShamsFail }
 {}

@@ -41,6 +41,7 @@ use Rattle.nor_runs.specs.Program.{program_of}
 use Rattle.nor_runs.specs.Rust.{with-config}
 use Rattle.nor_runs.specs.Run.{nor_driver}
 use Rattle.nor_runs.specs.Shams.{Memory, hasty, NorShamsFail}
+use Rattle.nor_runs.proofs.LentShams.{lent-shams-fail}
 use Rattle.nor_runs.proofs.Promises.{nor-promises}
 
 -- a driver that is built
@@ -160,6 +161,7 @@ constructible = record {
 pub nor-shams-fail : NorShamsFail
 nor-shams-fail = record {
   general = shams-fail nor_driver Memory Call.New lent constructible nor-promises.within_bound;
+  lent = lent-shams-fail;
   hasty = hasty-fails;
   one_result = one-result-fails;
 }

@@ -10,6 +10,7 @@ use Rattle.spi_nor.specs.declared.phase.WriteStep.{WriteStep}
 use Rattle.spi_nor.specs.declared.setup.Setup.{Setup}
 use Rattle.flash_runs.specs.Driver.{Driver}
 use Rattle.flash_runs.specs.SameAsRust.{SameAsRust}
+use Rattle.flash_runs.specs.LentShams.{LentShamsFail}
 use Rattle.flash_runs.specs.Shams.{altered, one_result, ShamsFail}
 use Rattle.nor_driver.specs.Settle.{SpiNorFlash, flash_of}
 use Rattle.nor_runs.specs.Program.{Left}
@@ -44,6 +45,8 @@ hasty = altered nor_driver gives_up
 pub record NorShamsFail : Type 0 where
   -- every request refused; success with no traffic; running for ever; a bound that is no sum
   pub general : ShamsFail nor_driver Memory
+  -- lent bytes written where they must not be, select left low, errors and refusals with another code, refusals that change something
+  pub lent : LentShamsFail nor_driver
   pub hasty : SameAsRust hasty → ⊥
   -- whichever result it is, after honest traffic
   pub one_result : (answer : Answer) → SameAsRust (one_result nor_driver answer) → ⊥

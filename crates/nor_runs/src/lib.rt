@@ -25,7 +25,8 @@ pub fn nor_keeps_to_the_bounds()
 {}
 
 /// No sham driver keeps them: one that refuses every request, claims success with no traffic, runs for ever, gives up before it looks,
-/// gives the same result whatever was read, or has a bound that is no sum of its delays.
+/// gives the same result whatever was read, has a bound that is no sum of its delays, spoils lent bytes, leaves select low, or says other
+/// codes of errors and refusals.
 pub fn nor_shams_fail()
     ensures { NorShamsFail }
 {}
