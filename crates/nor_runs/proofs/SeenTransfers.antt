@@ -4,7 +4,7 @@ use Rattle.spi_nor.specs.declared.config.NorQuadConfig.{NorQuadConfig}
 use Prim.Native.Nat.{ℕ, zero, suc, ◌+◌, ◌/◌, ◌%◌, ◌≤◌, ◌<◌}
 use native.Mathlib.Omega.{arith}
 use mathlib.Core.Bool.{true, not}
-use mathlib.Core.Path.{◌≡◌, refl, ap, sym, subst}
+use mathlib.Core.Path.{◌≡◌, refl, ap, sym, ◌∙◌, subst}
 use mathlib.Core.List.{List, [], ◌∷◌, ◌++◌}
 use lib.ListN.{length}
 use lib.Dec.{leb}
@@ -29,7 +29,7 @@ use Rattle.spi_nor.specs.Status.{write_enabled_of}
 use Rattle.spi_nor.specs.Transfer.{read_at, program_at, program_transfer}
 use Rattle.spi_nor.specs.declared.opcode.Operation.{Operation}
 use Rattle.spi_nor.specs.declared.setup.Setup.{Setup}
-use Rattle.nor_runs.specs.Observer.{closed, written, quad_place, Change, page, write_changes, quad_program_place, page_or_other, with_change, Piece, piece, with_piece, Sight, sight, observer}
+use Rattle.nor_runs.specs.Observer.{closed, written, quad_place, Change, page, write_changes, quad_read_changes, quad_program_place, page_or_other, with_change, Piece, piece, with_piece, Sight, sight, observer}
 use Rattle.nor_runs.specs.Rust.{busy_value, wait-ready, write-enable}
 
 abbrev pub Sights : Type 0
@@ -72,39 +72,56 @@ module _ (quad : Option NorQuadConfig) where
       abbrev pub Came : ℕ → Sights → Type 0
       Came v y = (new given : List ℕ) × (length new ≡ n) × (v ≡ value_of sink new given) × (y ≡ at programmed (pieces ++ piece place new given ∷ []) (got true (g.bytes ++ new)))
 
-      -- without data nothing has come
-      none : (asked : Option ℕ) → R None programmed (with_piece asked [] [] pieces) g.bytes
-      none None = q
-      none (Some p) = q
+      -- note is what the read itself changes: nothing
+      module _ (note : Option ℕ → Option Change) (no-change : note (Some place) ≡ None) where
+        abbrev behind_read : Option ℕ → List Change
+        behind_read asked = with_change (note asked) programmed
 
-      asked-for : (asked : Option ℕ) → asked ≡ Some place → R asked programmed pieces g.bytes
-      asked-for asked e = subst (λ x. R x programmed pieces g.bytes) (sym e) asking
+        is-behind : behind_read (Some place) ≡ programmed
+        is-behind = ap (λ c. with_change c programmed) no-change
+
+        -- without data nothing has come
+        none : (asked : Option ℕ) → asked ≡ Some place → R None (behind_read asked) (with_piece asked [] [] pieces) g.bytes
+        none asked e =
+            subst (λ x. R None (behind_read x) (with_piece x [] [] pieces) g.bytes) (sym e)
+            (subst (λ xs. R None xs pieces g.bytes) (sym is-behind) q)
+
+        asked-for : (asked : Option ℕ) → asked ≡ Some place → R asked (behind_read asked) pieces g.bytes
+        asked-for asked e =
+            subst (λ x. R x (behind_read x) pieces g.bytes) (sym e) (subst (λ xs. R (Some place) xs pieces g.bytes) (sym is-behind) asking)
+
+        module _ (some : 1 ≤ n) (more : (new given : List ℕ) → length new ≡ n → R None programmed (pieces ++ piece place new given ∷ []) (g.bytes ++ new)) where
+          abbrev heard : Option ℕ → (new given : List ℕ) → Sights
+          heard asked new given = at (behind_read asked) (with_piece asked given new pieces) (got true (behind true g.bytes new))
+
+          heard-is : (asked : Option ℕ) → asked ≡ Some place → (new given : List ℕ) → length new ≡ n → heard asked new given ≡ at programmed (pieces ++ piece place new given ∷ []) (got true (g.bytes ++ new))
+          heard-is asked a [] given e = absurd (omega arith)
+          heard-is asked a (b ∷ new) given e =
+              ap (λ x. at (behind_read x) (with_piece x given (b ∷ new) pieces) (got true (g.bytes ++ b ∷ new))) a
+              ∙ ap (λ xs. at xs (pieces ++ piece place (b ∷ new) given ∷ []) (got true (g.bytes ++ b ∷ new))) is-behind
+
+          came : (asked : Option ℕ) → asked ≡ Some place → (new given : List ℕ) → length new ≡ n →
+              Q (heard asked new given) × (Q (heard asked new given) × Came (value_of sink new given) (heard asked new given))
+          came asked a new given e =
+              let is = heard-is asked a new given e in
+              let right : Q (heard asked new given) = subst Q (sym is) (more new given e) in
+              (right, (right, (new, given, e, refl, is)))
 
       module _ (some : 1 ≤ n) (more : (new given : List ℕ) → length new ≡ n → R None programmed (pieces ++ piece place new given ∷ []) (g.bytes ++ new)) where
-        abbrev heard : Option ℕ → (new given : List ℕ) → Sights
-        heard asked new given = at programmed (with_piece asked given new pieces) (got true (behind true g.bytes new))
-
-        heard-is : (asked : Option ℕ) → asked ≡ Some place → (new given : List ℕ) → length new ≡ n → heard asked new given ≡ at programmed (pieces ++ piece place new given ∷ []) (got true (g.bytes ++ new))
-        heard-is asked a [] given e = absurd (omega arith)
-        heard-is asked a (b ∷ new) given e = ap (λ x. at programmed (with_piece x given (b ∷ new) pieces) (got true (g.bytes ++ b ∷ new))) a
-
-        came : (asked : Option ℕ) → asked ≡ Some place → (new given : List ℕ) → length new ≡ n →
-            Q (heard asked new given) × (Q (heard asked new given) × Came (value_of sink new given) (heard asked new given))
-        came asked a new given e =
-            let is = heard-is asked a new given e in
-            let right : Q (heard asked new given) = subst Q (sym is) (more new given e) in
-            (right, (right, (new, given, e, refl, is)))
-
         pub reading : Sees Came (at programmed pieces g) (transfer (read_at quad place n sink))
         reading = at_width quad
           where
             at_width : (q : Option NorQuadConfig) → Shows (both (observer q) (reader (λ command. true))) Q Came (at programmed pieces g) (transfer (read_at q place n sink))
             at_width None =
+                let note : Option ℕ → Option Change = λ asked. None in
+                let exact = ap Some (address-exact place small) in
                 shows-transfer _ Q (read_at None place n sink)
-                (q, (q, ((q, q), (asked-for _ (ap Some (address-exact place small)), ((q, q), (λ new given e. came _ (ap Some (address-exact place small)) new given e))))))
+                (q, (q, ((q, q), (asked-for note refl _ exact, ((q, q), (λ new given e. came note refl some more _ exact new given e))))))
             at_width (Some x) =
+                let note = quad_read_changes in
+                let exact = place-asked x place small in
                 shows-transfer _ Q (read_at (Some x) place n sink)
-                (q, (asked-for _ (place-asked x place small), ((none _, none _), (λ new given e. came _ (place-asked x place small) new given e))))
+                (q, (asked-for note refl _ exact, ((none note refl _ exact, none note refl _ exact), (λ new given e. came note refl some more _ exact new given e))))
 
     -- ---- what a write does beside: no byte of the contents is asked for
 

@@ -99,9 +99,23 @@ abbrev pub page_or_other : Option ℕ → Change
 page_or_other None = other
 page_or_other (Some place) = page place
 
+-- what the host sends while it reads is nothing to rely on: a read that is a frame's first, or behind 02
+abbrev pub read_changes : Frame → Option Change
+read_changes closed = None
+read_changes (written []) = Some other
+read_changes (written (first ∷ before)) = if first == PAGE-PROGRAM then Some other else None
+read_changes used = None
+
+-- a quad read that asks for no contents may be any command
+abbrev pub quad_read_changes : (asked : Option ℕ) → Option Change
+quad_read_changes None = Some other
+quad_read_changes (Some place) = None
+
 abbrev pub changes : Option NorQuadConfig → Shown → Frame → Option Change
 changes quad (write bytes) frame = write_changes frame bytes
 changes quad (quad_write command payload) frame = Some (page_or_other (quad_program_place quad frame command))
+changes quad (read n) frame = read_changes frame
+changes quad (quad_read command tclqv margin n) frame = quad_read_changes (quad_place quad frame command)
 changes quad _ frame = None
 
 abbrev pub with_change : Option Change → List Change → List Change

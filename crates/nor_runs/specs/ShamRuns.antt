@@ -223,6 +223,16 @@ behind_a_byte = claimed (done low ∷ done (write (6 ∷ [])) ∷ done (quad_wri
 abbrev pub other_quad_write : List Seen
 other_quad_write = claimed (quad_programmed ++ quad_piece 0x6B 5 both_bytes 2 ++ done low ∷ done (quad_write (0x20 ∷ 0 ∷ 0 ∷ 5 ∷ []) []) ∷ done high ∷ [])
 
+-- a quad read that is an erase; a read as a frame's first, or behind 02, where anything may be sent
+abbrev pub erased_by_quad : List Seen
+erased_by_quad = claimed (quad_programmed ++ quad_piece 0x6B 5 both_bytes 2 ++ done low ∷ done (quad_read (0x20 ∷ 0 ∷ 0 ∷ 5 ∷ []) 0 0 1) ∷ done high ∷ [])
+
+abbrev pub opened_by_read : List Seen
+opened_by_read = claimed (programmed_at 5 ++ piece_at 5 both_bytes 2 ++ done low ∷ done (read 1) ∷ done high ∷ [])
+
+abbrev pub programmed_by_read : List Seen
+programmed_by_read = claimed (programmed_at 5 ++ piece_at 5 both_bytes 2 ++ done low ∷ done (write (2 ∷ 0 ∷ 0 ∷ 5 ∷ [])) ∷ done (read 1) ∷ done high ∷ [])
+
 abbrev pub back_in_one_frame : List Seen
 back_in_one_frame = claimed (done low ∷ done (quad_write (0x32 ∷ 0 ∷ 0 ∷ 5 ∷ []) both_bytes) ∷ got (quad_read (0x6B ∷ 0 ∷ 0 ∷ 5 ∷ []) 8 0 2) both_bytes ∷ done high ∷ [])
 
@@ -282,6 +292,9 @@ pub record ShamRunsFail : Type 0 where
   pub erased-behind : WriteSeen None erased_behind 5 2 → ⊥
   pub behind-a-byte : WriteSeen quad behind_a_byte 5 2 → ⊥
   pub other-quad-write : WriteSeen quad other_quad_write 5 2 → ⊥
+  pub erased-by-quad : WriteSeen quad erased_by_quad 5 2 → ⊥
+  pub opened-by-read : WriteSeen None opened_by_read 5 2 → ⊥
+  pub programmed-by-read : WriteSeen None programmed_by_read 5 2 → ⊥
   pub back-in-one-frame : WriteSeen quad back_in_one_frame 5 2 → ⊥
   -- a chip has answered the lawful read so, and every chip that has holds these bytes at the places that were asked for
   pub answers : FromChip holding (pieces_in None read_whole)
