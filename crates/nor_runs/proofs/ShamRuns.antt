@@ -1,13 +1,15 @@
 -- Each sham run breaks a part of `ReadSeen` or `WriteSeen`, by computation.
-use Prim.Native.Nat.{ℕ}
+use Prim.Native.Nat.{ℕ, ◌<◌}
 use native.Mathlib.Omega.{arith}
 use mathlib.Core.Path.{refl, ap, sym}
 use mathlib.Core.List.{List, [], ◌∷◌}
 use lib.ListN.{length}
+use Rattle.std.specs.Prelude.{None}
 use Rattle.flash_runs.specs.Reading.{bytes_read}
 use Rattle.flash_runs.specs.Watch.{watched, Succeeded}
+use Rattle.nor_runs.specs.Chip.{ReadSeen}
 use Rattle.nor_runs.specs.Observer.{Change, page, other}
-use Rattle.nor_runs.specs.ShamRuns.{ShamRunsFail}
+use Rattle.nor_runs.specs.ShamRuns.{one_piece, ShamRunsFail}
 
 -- ---- what tells two lists apart
 
@@ -28,6 +30,11 @@ abbrev changed_at : List Change → ℕ
 changed_at [] = 0
 changed_at (x ∷ xs) = place x
 
+too-long : (bytes : List ℕ) → 65536 < length bytes → ReadSeen None (one_piece bytes) 5 (length bytes) → ⊥
+unfolding watched
+too-long [] long h = omega (arith, long)
+too-long (b ∷ bytes) long h = omega (arith, long, h.in_turn.1)
+
 pub sham-runs-fail : ShamRunsFail
 unfolding watched Succeeded bytes_read
 sham-runs-fail = record {
@@ -45,6 +52,7 @@ sham-runs-fail = record {
   offset-again = λ h. omega (arith, h.in_turn.2.0);
   asked-again = λ h. omega (arith, h.next);
   past-the-end = λ h. omega (arith, h.within);
+  long-piece = too-long;
   other-address = λ h. omega (arith, h.in_turn.0);
   lowest-first = λ h. omega (arith, h.in_turn.0);
   one-place-on = λ h. omega (arith, ap length h.all);

@@ -1,6 +1,6 @@
 -- Runs of a NOR's read and write that sham drivers would show, beside lawful ones (docs/SPECIFICATION.md, "Shams" and "Reads on the bus"):
 -- each of 2 bytes at place 5. The observer allows the lawful runs and none of the shams, for one thing that each does otherwise.
-use Rattle.std.specs.Prelude.{ℕ, ◌≡◌, ◌==◌, if◌then◌else◌, List, [], ◌∷◌, ◌++◌, Option, Some, None}
+use Rattle.std.specs.Prelude.{ℕ, ◌<◌, ◌≡◌, ◌==◌, if◌then◌else◌, List, [], ◌∷◌, ◌++◌, length, Option, Some, None}
 use Rattle.qspi.specs.Shown.{Shown, low, high, write, read, quad_read, quad_write, delay}
 use Rattle.qspi.specs.declared.bus.Reply.{Reply}
 use Rattle.spi_flash.specs.Loan.{Lent}
@@ -109,6 +109,10 @@ asked_again = going_on (piece_at 5 (161 ∷ []) 1 ++ done low ∷ done (write (3
 
 abbrev pub past_the_end : List Seen
 past_the_end = going_on (piece_at 5 both_bytes 2 ++ piece_at 7 (0 ∷ []) 1) low
+
+-- all in one piece
+abbrev pub one_piece : List ℕ → List Seen
+one_piece bytes = claimed (piece_at 5 bytes (length bytes))
 
 -- bytes of another address; of one sent lowest byte first
 abbrev pub other_address : List Seen
@@ -260,6 +264,7 @@ pub record ShamRunsFail : Type 0 where
   pub offset-again : ReadSeen None offset_again 5 2 → ⊥
   pub asked-again : ReadSeen None asked_again 5 2 → ⊥
   pub past-the-end : ReadSeen None past_the_end 5 2 → ⊥
+  pub long-piece : (bytes : List ℕ) → 65536 < length bytes → ReadSeen None (one_piece bytes) 5 (length bytes) → ⊥
   pub other-address : ReadSeen None other_address 5 2 → ⊥
   pub lowest-first : ReadSeen None lowest_first 5 2 → ⊥
   pub one-place-on : ReadSeen None one_place_on 5 2 → ⊥
