@@ -86,10 +86,12 @@ read_quad = claimed (quad_piece 0x6B 5 both_bytes 2)
 abbrev pub read_after_pause : List Seen
 read_after_pause = claimed (done low ∷ done (write (3 ∷ 0 ∷ 0 ∷ 5 ∷ [])) ∷ done (delay 1) ∷ got (read 2) both_bytes ∷ done high ∷ [])
 
--- an erase where the chip takes none: with select high, and behind a read
+-- an erase, and a read, where the chip takes none: with select high, and behind a read
+abbrev pub untaken : List Exchange
+untaken = done (write (0x20 ∷ 0 ∷ 0 ∷ 5 ∷ [])) ∷ done (read 1) ∷ []
+
 abbrev pub no_erase : List Seen
-no_erase =
-    claimed (done (write (0x20 ∷ 0 ∷ 0 ∷ 5 ∷ [])) ∷ done low ∷ done (write (3 ∷ 0 ∷ 0 ∷ 5 ∷ [])) ∷ got (read 2) both_bytes ∷ done (write (0x20 ∷ 0 ∷ 0 ∷ 5 ∷ [])) ∷ done high ∷ [])
+no_erase = claimed (untaken ++ done low ∷ done (write (3 ∷ 0 ∷ 0 ∷ 5 ∷ [])) ∷ got (read 2) both_bytes ∷ untaken ++ done high ∷ [])
 
 -- success with no traffic
 abbrev pub no_traffic : List Seen
