@@ -134,6 +134,7 @@ ruled = record {
   two-dummies = λ h. true≢false (ap (λ n. eqb n 1) (h.whole tt).filled);
   read-behind = λ h. true≢false (ap (λ xs. eqb (length xs) 1) h.reads);
   rewritten-column = λ h. true≢false (ap (λ xs. eqb (length xs) 1) h.reads);
+  low-again = λ h. true≢false (ap (λ xs. eqb (length xs) 1) h.reads);
   quad-behind = λ h. true≢false (ap (λ xs. eqb (length xs) 1) h.reads);
   unselected-quad = λ h. true≢false (ap (λ xs. eqb (length xs) 1) h.reads);
   long-quad = λ h. true≢false (ap (λ xs. eqb (length xs) 1) h.reads);

@@ -3,9 +3,9 @@
 use Rattle.std.specs.Prelude.{ℕ, suc, ◌/◌, ◌%◌, ◌^◌, Bool, true, false, ◌&&◌, ◌||◌, ◌==◌, if◌then◌else◌, List, [], ◌∷◌, ◌++◌, length, take}
 use Rattle.std.proofs.Math.Option.{Option, none, some}
 use Rattle.qspi.specs.Address.{read_from}
-use Rattle.qspi.specs.Shown.{Shown, write, read, quad_read, quad_write}
+use Rattle.qspi.specs.Shown.{Shown, low, write, read, quad_read, quad_write}
 use Rattle.spi_flash.specs.Bits.{is_clear}
-use Rattle.flash_runs.specs.Watch.{Watcher, BusFrame, closed, selected, frame_after, command_in}
+use Rattle.flash_runs.specs.Watch.{Watcher, BusFrame, closed, selected, used, frame_after, command_in}
 use Rattle.spi_nand.specs.Opcode.{RESET, GET-FEATURE, REG-STATUS, PAGE-READ, LOAD-PROGRAM-DATA, PROGRAM-EXECUTE, READ-CACHE}
 
 -- ---- what a command is, by its bytes
@@ -136,10 +136,20 @@ abbrev pub no_cache : Awaited → Bool
 no_cache (cache column load) = false
 no_cache _ = true
 
+-- select goes low: where it is low already no new frame begins
+abbrev pub opened : BusFrame → BusFrame
+opened closed = selected
+opened selected = selected
+opened _ = used
+
+abbrev pub frame_behind : Shown → BusFrame → BusFrame
+frame_behind low frame = opened frame
+frame_behind shown frame = frame_after shown frame
+
 abbrev pub given_out : Shown → Sight → Sight
 given_out shown s =
     record {
-      frame = frame_after shown s.frame;
+      frame = frame_behind shown s.frame;
       awaited = awaited_by shown s;
       load = last_load (load_by shown s) (writes_cache shown s.frame) s.load;
       loads = with_page (load_by shown s) s.loads;

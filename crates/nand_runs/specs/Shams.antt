@@ -266,7 +266,7 @@ abbrev pub short_column : List Seen
 short_column = claimed (page_0 ++ loaded 1 0 ++ asked (READ-CACHE ∷ 0 ∷ []) (178 ∷ []) 1)
 
 -- a copy asked for without the dummy byte, or with two; behind another read, or another write, in its frame, where the part goes on with
--- the first
+-- the first, also where low was asked for between
 abbrev pub no_dummy : List Seen
 no_dummy = copied_by (asked (READ-CACHE ∷ 7 ∷ 255 ∷ []) (161 ∷ []) 1)
 
@@ -279,6 +279,9 @@ read_behind = copied_by (in_frame (done (write (READ-CACHE ∷ 7 ∷ 255 ∷ 0 �
 abbrev pub rewritten_column : List Seen
 rewritten_column =
     copied_by (in_frame (done (write (READ-CACHE ∷ 7 ∷ 255 ∷ 0 ∷ [])) ∷ done (write (READ-CACHE ∷ 0 ∷ 0 ∷ 0 ∷ [])) ∷ got (161 ∷ []) 1 ∷ []))
+
+abbrev pub low_again : List Seen
+low_again = copied_by (in_frame (done (write (READ-ID ∷ [])) ∷ done low ∷ done (write (READ-CACHE ∷ 7 ∷ 255 ∷ 0 ∷ [])) ∷ got (161 ∷ []) 1 ∷ []))
 
 -- a quad read behind a write of its frame; while select is high; with a byte too many
 abbrev pub quad_behind : List Seen
@@ -399,6 +402,7 @@ pub record ShamRuns : Type 0 where
   pub two-dummies : Ruled two_dummies
   pub read-behind : Ruled read_behind
   pub rewritten-column : Ruled rewritten_column
+  pub low-again : Ruled low_again
   pub quad-behind : Ruled quad_behind
   pub unselected-quad : Ruled unselected_quad
   pub long-quad : Ruled long_quad
