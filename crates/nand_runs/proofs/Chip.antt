@@ -311,6 +311,7 @@ module _ (flash : SpiNandFlash) (page : ℕ) (l : Lent) (es : List (Event Call))
   read-back : ReadBack nand_driver flash page l es
   read-back = record {
     programs = ap (λ (z : Sights). z.0.programs) came.4;
+    plain = ap (λ (z : Sights). z.0.plain) came.4;
     loads = ap (λ (z : Sights). z.0.loads) came.4;
     reads = reads-are;
     same = λ same. reads-are ∙ ap (bytes_at page 0) (data-beside same);

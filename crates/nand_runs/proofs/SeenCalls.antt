@@ -108,7 +108,7 @@ Sights = Sight × Got
 -- with whose data the last command asked for
 abbrev pub at : Bool → Load → Tally → Sights
 at mine load t =
-    (record { frame = closed; awaited = other; load = load; loads = t.loads; verdicts = t.verdicts; reads = t.reads; programs = t.programs; in_order = true }, got mine t.bytes)
+    (record { frame = closed; awaited = other; load = load; loads = t.loads; verdicts = t.verdicts; reads = t.reads; programs = t.programs; plain = true; in_order = true }, got mine t.bytes)
 
 abbrev pub watcher : Watcher Sights
 watcher = both observer (reader reads_cache)

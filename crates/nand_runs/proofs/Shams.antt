@@ -209,6 +209,14 @@ stale-found : DeliversTheChip (actor (actions_in Shams.stale)) → ⊥
 unfolding watched Succeeded call_of goes_on replies one_byte
 stale-found kept = true≢false (ap (λ xs. eqb (length xs) 0) (kept.write_page at_rest 0 one_byte (replies Shams.stale) tt).reads)
 
+program-found : DeliversTheChip (actor (actions_in Shams.programmed_behind)) → ⊥
+unfolding watched Succeeded call_of goes_on replies one_byte
+program-found kept = true≢false (sym (kept.write_page at_rest 0 one_byte (replies Shams.programmed_behind) tt).plain)
+
+erase-found : DeliversTheChip (actor (actions_in Shams.erased_behind)) → ⊥
+unfolding watched Succeeded call_of goes_on replies one_byte
+erase-found kept = true≢false (sym (kept.write_page at_rest 0 one_byte (replies Shams.erased_behind) tt).plain)
+
 -- the true run: its actions behind the first, what the chip has answered in it, and nobody else in its buffer
 abbrev behind_low : List Exchange
 behind_low = done (write (Shams.load_command 0)) ∷ done high ∷ (Shams.waited ++ Shams.status 0 ++ Shams.last_byte ++ Shams.page_1)
@@ -255,6 +263,8 @@ chips = record {
   no-traffic = no-page-written;
   unequal-data = unequal-found;
   stale-cache = stale-found;
+  programmed-behind = program-found;
+  erased-behind = erase-found;
 }
 
 pub shams-ruled-out : ShamsRuledOut

@@ -77,6 +77,7 @@ module _ {F : Type 0} (driver : Driver F Call Setup Answer) where
     pub record ReadBack : Type 0 where
       -- that page alone was programmed, then loaded, and read from column 0 on behind its verdict: the data, as they were lent beside them
       pub programs : (sight_of write_steps).programs ≡ page ∷ []
+      pub plain : (sight_of write_steps).plain ≡ true
       pub loads : (sight_of write_steps).loads ≡ page ∷ []
       pub reads : (sight_of write_steps).reads ≡ bytes_at page 0 (take (length l.given) (watched lent_beside [] write_steps))
       -- with the same data lent throughout these are the data

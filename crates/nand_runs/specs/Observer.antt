@@ -1,12 +1,12 @@
 -- What is seen of the NAND from outside: a watcher over the bytes of the actions given out and of the replies, which knows nothing of the
 -- driver (docs/SPECIFICATION.md, "Reads on the bus").
-use Rattle.std.specs.Prelude.{ℕ, suc, ◌/◌, ◌%◌, ◌^◌, Bool, true, false, ◌&&◌, ◌||◌, ◌==◌, if◌then◌else◌, List, [], ◌∷◌, ◌++◌, length, take}
+use Rattle.std.specs.Prelude.{ℕ, suc, ◌/◌, ◌%◌, ◌^◌, Bool, true, false, not, ◌&&◌, ◌||◌, ◌==◌, if◌then◌else◌, List, [], ◌∷◌, ◌++◌, length, take}
 use Rattle.std.proofs.Math.Option.{Option, none, some}
 use Rattle.qspi.specs.Address.{read_from}
 use Rattle.qspi.specs.Shown.{Shown, low, write, read, quad_read, quad_write}
 use Rattle.spi_flash.specs.Bits.{is_clear}
 use Rattle.flash_runs.specs.Watch.{Watcher, BusFrame, closed, selected, used, frame_after, command_in}
-use Rattle.spi_nand.specs.Opcode.{RESET, GET-FEATURE, REG-STATUS, PAGE-READ, LOAD-PROGRAM-DATA, PROGRAM-EXECUTE, READ-CACHE}
+use Rattle.spi_nand.specs.Opcode.{RESET, BLOCK-ERASE, GET-FEATURE, REG-STATUS, PAGE-READ, LOAD-PROGRAM-DATA, PROGRAM-EXECUTE, READ-CACHE}
 
 -- ---- what a command is, by its bytes
 
@@ -70,12 +70,14 @@ pub record Sight : Type 0 where
   pub reads : List ReadByte
   -- the pages programmed
   pub programs : List ℕ
+  -- and nothing else that changes the chip's contents was asked
+  pub plain : Bool
   -- no action, so no load, was given out before the reply to a read of the cache
   pub in_order : Bool
 
 -- before a run
 abbrev pub unseen : Sight
-unseen = record { frame = closed; awaited = other; load = unloaded; loads = []; verdicts = []; reads = []; programs = []; in_order = true }
+unseen = record { frame = closed; awaited = other; load = unloaded; loads = []; verdicts = []; reads = []; programs = []; plain = true; in_order = true }
 
 -- ---- an action is given out
 
@@ -109,6 +111,15 @@ abbrev pub writes_cache : Shown → BusFrame → Bool
 writes_cache (write bytes) selected = changes_cache bytes
 writes_cache (quad_write command payload) frame = true
 writes_cache _ _ = false
+
+-- an erase (D8), or a 10 with other address bytes
+abbrev pub alters_contents : List ℕ → Bool
+alters_contents [] = false
+alters_contents (opcode ∷ address) = opcode == BLOCK-ERASE || opcode == PROGRAM-EXECUTE && not (length address == 3)
+
+abbrev pub alters : Shown → BusFrame → Bool
+alters (write bytes) selected = alters_contents bytes
+alters _ _ = false
 
 -- with a load its wait begins; behind any other change the cache holds no page that was loaded
 abbrev pub last_load : (loaded : Option ℕ) → (changed : Bool) → Load → Load
@@ -156,6 +167,7 @@ given_out shown s =
       verdicts = s.verdicts;
       reads = s.reads;
       programs = with_page (program_by shown s) s.programs;
+      plain = s.plain && not (alters shown s.frame);
       in_order = s.in_order && no_cache s.awaited;
     }
 

@@ -10,7 +10,7 @@ use Rattle.spi_flash.specs.declared.error.FlashError.{FlashError}
 use Rattle.flash_runs.specs.Driver.{leaving, Driver}
 use Rattle.flash_runs.specs.Shams.{in_place}
 use Rattle.spi_nand.specs.Config.{W25N01GV, single_config}
-use Rattle.spi_nand.specs.Opcode.{RESET, READ-ID, GET-FEATURE, REG-STATUS, REG-CONFIGURATION, PAGE-READ, READ-CACHE, QUAD-READ-CACHE, LOAD-PROGRAM-DATA, QUAD-LOAD-PROGRAM-DATA, PROGRAM-EXECUTE}
+use Rattle.spi_nand.specs.Opcode.{RESET, READ-ID, GET-FEATURE, REG-STATUS, REG-CONFIGURATION, PAGE-READ, BLOCK-ERASE, READ-CACHE, QUAD-READ-CACHE, LOAD-PROGRAM-DATA, QUAD-LOAD-PROGRAM-DATA, PROGRAM-EXECUTE}
 use Rattle.spi_nand.specs.declared.answer.Answer.{Answer}
 use Rattle.spi_nand.specs.declared.call.Call.{Call}
 use Rattle.spi_nand.specs.declared.setup.Setup.{Setup}
@@ -424,6 +424,16 @@ unequal = programmed ++ loaded 0 0 ++ read_back 8
 abbrev pub stale : List Exchange
 stale = loaded 0 0 ++ programmed ++ read_back 7
 
+-- another page programmed behind it, by a 10 and its address in two writes; its block erased
+abbrev pub written : List Exchange → List Exchange
+written own = programmed ++ loaded 0 0 ++ read_back 7 ++ own
+
+abbrev pub programmed_behind : List Exchange
+programmed_behind = written (in_frame (done (write (PROGRAM-EXECUTE ∷ [])) ∷ done (write (0 ∷ 0 ∷ 1 ∷ [])) ∷ []))
+
+abbrev pub erased_behind : List Exchange
+erased_behind = written (command (BLOCK-ERASE ∷ 0 ∷ 0 ∷ 0 ∷ []))
+
 pub record ChipsTold : Type 0 where
   -- a chip has answered so, and every chip that has holds these bytes at the places that were asked for
   pub answers : FromChip (holding 161 178 0) unseen true_run
@@ -440,6 +450,9 @@ pub record ChipsTold : Type 0 where
   -- nor one that goes on with other data than it was lent, or does not load the page again
   pub unequal-data : DeliversTheChip (actor (actions_in unequal)) → ⊥
   pub stale-cache : DeliversTheChip (actor (actions_in stale)) → ⊥
+  -- nor one that programs or erases more
+  pub programmed-behind : DeliversTheChip (actor (actions_in programmed_behind)) → ⊥
+  pub erased-behind : DeliversTheChip (actor (actions_in erased_behind)) → ⊥
 
 pub record ShamsRuledOut : Type 0 where
   pub lawful : LawfulRuns
