@@ -1,6 +1,6 @@
 -- What is seen of a NOR from outside: the reads of its contents, told from the bytes on the bus alone, what came back to them, where pages
--- were programmed, and whether anything else was sent (docs/SPECIFICATION.md, "Reads on the bus"). The watcher knows nothing of the driver; beside the bytes it knows the
--- opcodes that the caller has chosen for quad calls.
+-- were programmed, and whether anything else was sent (docs/SPECIFICATION.md, "Reads on the bus"). The watcher knows nothing of the driver;
+-- beside the bytes it knows the opcodes that the caller has chosen for quad calls.
 use Rattle.std.specs.Prelude.{ℕ, ◌==◌, ◌||◌, List, [], ◌∷◌, ◌++◌, Option, Some, None, if◌then◌else◌}
 use Rattle.qspi.specs.Address.{read_from}
 use Rattle.qspi.specs.Shown.{Shown, low, high, write, read, quad_read, quad_write, delay}
@@ -55,7 +55,7 @@ asks quad _ frame = None
 
 -- ---- what is changed
 
--- a page is programmed from this place on; or a command is sent that neither reads nor programs as above: an erase, say
+-- a page is programmed from this place on; or something else is sent that may change what the chip holds or how it answers: an erase, say
 pub data Change : Type 0 where
   page : ℕ → Change
   other : Change
@@ -94,7 +94,7 @@ abbrev pub quad_program_place : Option NorQuadConfig → Frame → List ℕ → 
 quad_program_place (Some quad) (written []) command = place_in quad.page_program_opcode command
 quad_program_place _ _ command = None
 
--- and any other
+-- any other quad write may be any command
 abbrev pub page_or_other : Option ℕ → Change
 page_or_other None = other
 page_or_other (Some place) = page place
