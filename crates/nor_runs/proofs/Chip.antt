@@ -187,7 +187,7 @@ module _ (flash : SpiNorFlash) (offset : ℕ) (l : Lent) (es : List (Event Call)
   ReadBack = SeenWrite.Whole size
 
   nothing : Right start
-  nothing = (tt, tt, omega arith, record { rest = []; whole = refl })
+  nothing = (tt, tt, omega arith, (record { rest = []; whole = refl }, tt))
 
   writes : bounded_at nor_driver flash writing l ≡ true → Shows (watcher lines) Right (λ a y. ReadBack y) start (program_at nor_driver flash.setup writing l)
   unfolding coded
@@ -216,7 +216,8 @@ module _ (flash : SpiNorFlash) (offset : ℕ) (l : Lent) (es : List (Event Call)
     in_turn = right.0;
     next = right.1;
     within = right.2;
-    programmed = right.3;
+    programmed = right.3.0;
+    ahead = right.3.1;
     all_back = λ e. (full e).2;
     as_lent = λ e. (full e).0;
     whole = λ e. (full e).1;

@@ -23,7 +23,7 @@ use Rattle.spi_nor.specs.Transfer.{place_of, page_of, read_transfer, multiple_of
 use Rattle.spi_nor.proofs.DeviceBounds.{device_bounds}
 use Rattle.spi_nor.specs.declared.opcode.Operation.{Operation}
 use Rattle.spi_nor.specs.declared.setup.Setup.{Setup}
-use Rattle.nor_runs.specs.Chip.{InTurn, joined, AskedAt, pages, SameAsLent}
+use Rattle.nor_runs.specs.Chip.{InTurn, joined, NextPage, AskedAt, pages, SameAsLent}
 use Rattle.nor_runs.specs.Observer.{Change, page, Piece, piece, Sight}
 use Rattle.nor_runs.proofs.AsCoded.{read_back, page-program, write-loop, writing, write}
 use Rattle.nor_runs.proofs.Loops.{page-some}
@@ -35,7 +35,7 @@ use Rattle.nor_runs.proofs.SeenTransfers.{Sights, seen, at, watcher, Sees, from,
 -- at every point of a run
 abbrev pub InOrder : (offset len : ℕ) → Option ℕ → List Change → List Piece → List ℕ → Type 0
 InOrder offset len asked programmed ps bytes =
-    InTurn offset ps × AskedAt (offset + length (joined ps)) asked × (length (joined ps) ≤ len) × Prefix (pages ps) programmed
+    InTurn offset ps × AskedAt (offset + length (joined ps)) asked × (length (joined ps) ≤ len) × ((p : Prefix (pages ps) programmed) × NextPage (offset + length (joined ps)) p.rest)
 
 -- where it ended well
 abbrev pub Whole : ℕ → Sights → Type 0
@@ -86,13 +86,16 @@ module _ (flash : Setup) (bounds : in_bounds_of flash.device ≡ true) (offset l
       so_far = omega (arith, stands.size, stands.most)
 
       before : (bytes : List ℕ) → Sound None (pages ps) ps bytes
-      before bytes = (stands.in_turn, tt, so_far, record { rest = []; whole = append-nil (pages ps) })
+      before bytes = (stands.in_turn, tt, so_far, (record { rest = []; whole = append-nil (pages ps) }, tt))
+
+      next : page (offset + done) ≡ page (offset + length (joined ps))
+      next = ap (λ n. page (offset + n)) (sym stands.size)
 
       sent : (bytes : List ℕ) → Sound None programmed ps bytes
-      sent bytes = (stands.in_turn, tt, so_far, record { rest = page (offset + done) ∷ []; whole = refl })
+      sent bytes = (stands.in_turn, tt, so_far, (record { rest = page (offset + done) ∷ []; whole = refl }, next))
 
       asking : (bytes : List ℕ) → Sound (Some (offset + done)) programmed ps bytes
-      asking bytes = (stands.in_turn, ap (λ n. offset + n) (sym stands.size), so_far, record { rest = page (offset + done) ∷ []; whole = refl })
+      asking bytes = (stands.in_turn, ap (λ n. offset + n) (sym stands.size), so_far, (record { rest = page (offset + done) ∷ []; whole = refl }, next))
 
       more : (new given : List ℕ) → length new ≡ size → InTurn offset (ps ++ piece (offset + done) new given ∷ [])
       more new given e = in-turn-more ps (piece (offset + done) new given) offset stands.in_turn (ap (λ n. offset + n) (sym stands.size)) (omega (arith, most))
@@ -100,7 +103,7 @@ module _ (flash : Setup) (bounds : in_bounds_of flash.device ≡ true) (offset l
       came : (g : Got) (new given : List ℕ) → length new ≡ size → Sound None programmed (ps ++ piece (offset + done) new given ∷ []) (g.bytes ++ new)
       came g new given e =
           let p = piece (offset + done) new given in
-          (more new given e, tt, omega (arith, ap length (joined-more ps p), length-append (joined ps) new, stands.size, room), record { rest = []; whole = append-nil _ ∙ pages-more ps (piece (offset + done) new given) })
+          (more new given e, tt, omega (arith, ap length (joined-more ps p), length-append (joined ps) new, stands.size, room), (record { rest = []; whole = append-nil _ ∙ pages-more ps (piece (offset + done) new given) }, tt))
 
       -- what has come of a page that was read back as it was lent
       Programmed : Sights → Type 0

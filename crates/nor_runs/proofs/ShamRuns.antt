@@ -1,13 +1,13 @@
 -- Each sham run breaks a part of `ReadSeen` or `WriteSeen`, by computation.
 use Prim.Native.Nat.{ℕ, ◌<◌}
 use native.Mathlib.Omega.{arith}
-use mathlib.Core.Path.{refl, ap, sym}
+use mathlib.Core.Path.{refl, ap, sym, subst}
 use mathlib.Core.List.{List, [], ◌∷◌}
 use lib.ListN.{length}
 use Rattle.std.specs.Prelude.{None}
 use Rattle.flash_runs.specs.Reading.{bytes_read}
 use Rattle.flash_runs.specs.Watch.{watched, Succeeded}
-use Rattle.nor_runs.specs.Chip.{ReadSeen}
+use Rattle.nor_runs.specs.Chip.{NextPage, ReadSeen}
 use Rattle.nor_runs.specs.Observer.{Change, page, other}
 use Rattle.nor_runs.specs.ShamRuns.{one_piece, ShamRunsFail}
 
@@ -63,10 +63,10 @@ sham-runs-fail = record {
   never-selected = λ h. omega (arith, ap length h.all);
   status-for-contents = λ h. omega (arith, ap length h.all);
   other-opcode = λ h. omega (arith, ap length h.all);
-  back = record { in_turn = (refl, omega arith, tt); next = tt; within = omega arith; programmed = record { rest = []; whole = refl }; all_back = λ e. refl; as_lent = λ e. (refl, tt); whole = λ e. refl };
-  back_by_quad = record { in_turn = (refl, omega arith, tt); next = tt; within = omega arith; programmed = record { rest = []; whole = refl }; all_back = λ e. refl; as_lent = λ e. (refl, tt); whole = λ e. refl };
-  back_at_once = record { in_turn = (refl, omega arith, tt); next = tt; within = omega arith; programmed = record { rest = []; whole = refl }; all_back = λ e. refl; as_lent = λ e. (refl, tt); whole = λ e. refl };
-  back_in_three = record { in_turn = (refl, omega arith, tt); next = tt; within = omega arith; programmed = record { rest = []; whole = refl }; all_back = λ e. refl; as_lent = λ e. (refl, tt); whole = λ e. refl };
+  back = record { in_turn = (refl, omega arith, tt); next = tt; within = omega arith; programmed = record { rest = []; whole = refl }; ahead = tt; all_back = λ e. refl; as_lent = λ e. (refl, tt); whole = λ e. refl };
+  back_by_quad = record { in_turn = (refl, omega arith, tt); next = tt; within = omega arith; programmed = record { rest = []; whole = refl }; ahead = tt; all_back = λ e. refl; as_lent = λ e. (refl, tt); whole = λ e. refl };
+  back_at_once = record { in_turn = (refl, omega arith, tt); next = tt; within = omega arith; programmed = record { rest = []; whole = refl }; ahead = tt; all_back = λ e. refl; as_lent = λ e. (refl, tt); whole = λ e. refl };
+  back_in_three = record { in_turn = (refl, omega arith, tt); next = tt; within = omega arith; programmed = record { rest = []; whole = refl }; ahead = tt; all_back = λ e. refl; as_lent = λ e. (refl, tt); whole = λ e. refl };
   not-read-back = λ h. omega (arith, h.whole tt);
   not-compared = λ h. omega (arith, ap second (h.as_lent tt).0);
   other-place = λ h. omega (arith, h.in_turn.0);
@@ -74,6 +74,8 @@ sham-runs-fail = record {
   other-command = λ h. omega (arith, ap changed_at (h.all_back tt));
   never-written = λ h. omega (arith, ap length (h.all_back tt));
   read-back-first = λ h. omega (arith, ap length h.programmed.whole);
+  erasing = λ h. omega (arith, ap place (subst (NextPage 5) h.programmed.whole h.ahead));
+  two-ahead = λ h. subst (NextPage 5) h.programmed.whole h.ahead;
   hidden-program = λ h. omega (arith, ap length (h.all_back tt));
   hidden-in-parts = λ h. omega (arith, ap length (h.all_back tt));
   erased-behind = λ h. omega (arith, ap length (h.all_back tt));

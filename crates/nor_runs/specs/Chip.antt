@@ -31,6 +31,12 @@ abbrev pub pages : List Piece → List Change
 pages [] = []
 pages (p ∷ ps) = page p.place ∷ pages ps
 
+-- nothing, or the page at this place
+abbrev pub NextPage : ℕ → List Change → Type 0
+NextPage place [] = Unit {0}
+NextPage place (x ∷ []) = x ≡ page place
+NextPage place (x ∷ y ∷ more) = ⊥
+
 -- what is asked of the contents, if anything is, is asked from this place
 abbrev pub AskedAt : ℕ → Option ℕ → Type 0
 AskedAt place None = Unit {0}
@@ -71,13 +77,14 @@ module _ (quad : Option NorQuadConfig) {C A : Type 0} (xs : List (Entry C A)) wh
     pub unchanged : seen_in.changed ≡ []
     pub whole : Succeeded xs → length data_in ≡ len
 
-  -- a write of len bytes at offset: it reads back from its own places alone, in order, each page once it was programmed; and at a good
-  -- end all of them, each as the data were in the step that compared it, with nothing else changed
+  -- a write of len bytes at offset: it reads back from its own places alone, in order, each page once it was programmed and
+  -- before the next one is, and nothing else is changed; and at a good end all of them, each as the data were in the step that compared it
   pub record WriteSeen (offset len : ℕ) : Type 0 where
     pub in_turn : InTurn offset pieces_in
     pub next : AskedAt (offset + length (joined pieces_in)) seen_in.asked
     pub within : length (joined pieces_in) ≤ len
     pub programmed : Prefix (pages pieces_in) seen_in.changed
+    pub ahead : NextPage (offset + length (joined pieces_in)) programmed.rest
     pub all_back : Succeeded xs → pages pieces_in ≡ seen_in.changed
     pub as_lent : Succeeded xs → SameAsLent 0 pieces_in
     pub whole : Succeeded xs → length (joined pieces_in) ≡ len

@@ -212,6 +212,13 @@ never_written = claimed (piece_at 5 both_bytes 2)
 abbrev pub read_back_first : List Seen
 read_back_first = going_on (piece_at 5 both_bytes 2) low
 
+-- before its end: an erase, or two pages programmed, where none was read back
+abbrev pub erasing : List Seen
+erasing = going_on (framed ((0x20 ∷ 0 ∷ 0 ∷ 5 ∷ []) ∷ [])) low
+
+abbrev pub two_ahead : List Seen
+two_ahead = going_on (programmed_at 5 ++ programmed_at 6) low
+
 -- another page programmed beside it, command and data in one write, or cut otherwise; an erase behind the read-back
 abbrev pub hidden_program : List Seen
 hidden_program = claimed (programmed_at 5 ++ framed ((2 ∷ 0 ∷ 0 ∷ 9 ∷ 161 ∷ []) ∷ []) ++ piece_at 5 both_bytes 2)
@@ -294,6 +301,8 @@ pub record ShamRunsFail : Type 0 where
   pub other-command : WriteSeen None other_command 5 2 → ⊥
   pub never-written : WriteSeen None never_written 5 2 → ⊥
   pub read-back-first : WriteSeen None read_back_first 5 2 → ⊥
+  pub erasing : WriteSeen None erasing 5 2 → ⊥
+  pub two-ahead : WriteSeen None two_ahead 5 2 → ⊥
   pub hidden-program : WriteSeen None hidden_program 5 2 → ⊥
   pub hidden-in-parts : WriteSeen None hidden_in_parts 5 2 → ⊥
   pub erased-behind : WriteSeen None erased_behind 5 2 → ⊥
