@@ -91,6 +91,8 @@ module _ (flash : Setup) (bounds : in_bounds flash.geometry ≡ true) (offset le
     pub verdicts : length z.0.verdicts ≡ count
     pub correctable : NoneUncorrectable z.0.verdicts
     pub filled : length z.1.bytes ≡ len
+    pub programs : z.0.programs ≡ []
+    pub plain : z.0.plain ≡ true
 
   -- i pages were loaded, and so far these verdicts and bytes have come
   abbrev tally : ℕ → List ℕ → List ℕ → Tally
@@ -226,6 +228,8 @@ module _ (flash : Setup) (bounds : in_bounds flash.geometry ≡ true) (offset le
           verdicts = omega (arith, stands.judges);
           correctable = stands.good;
           filled = omega (arith, stands.size, stands.most);
+          programs = refl;
+          plain = refl;
         })
 
     loops : (fuel : ℕ) → Goes fuel

@@ -95,6 +95,8 @@ module _ (flash : Setup) (bounds : in_bounds flash.geometry ≡ true) (offset le
             verdicts = full.verdicts;
             correctable = full.correctable;
             filled = rw (read_is xs) at full.filled;
+            programs = full.programs;
+            plain = full.plain;
             least = least e;
             most = most;
           };

@@ -57,6 +57,8 @@ module _ (g : NandGeometry) (offset len : ℕ) (xs : List (Entry Call Left)) (si
           verdicts = ap (λ s. length s.verdicts) sight ∙ sym none;
           correctable = subst NoneUncorrectable (sym (ap (λ s. s.verdicts) sight)) tt;
           filled = ap length bytes ∙ sym (empty s);
+          programs = ap (λ s. s.programs) sight;
+          plain = ap (λ s. s.plain) sight;
           least = omega (arith, none);
           most = omega (arith, asked);
         };

@@ -53,43 +53,43 @@ lawful =
         loads = record { rest = []; whole = refl };
         reads = refl;
         in_order = refl;
-        whole = λ e. record { loads = refl; verdicts = refl; correctable = (refl, (refl, tt)); filled = refl; least = omega arith; most = omega arith };
+        whole = λ e. record { loads = refl; verdicts = refl; correctable = (refl, (refl, tt)); filled = refl; programs = refl; plain = refl; least = omega arith; most = omega arith };
       };
       by-quad = record {
         loads = record { rest = []; whole = refl };
         reads = refl;
         in_order = refl;
-        whole = λ e. record { loads = refl; verdicts = refl; correctable = (refl, (refl, tt)); filled = refl; least = omega arith; most = omega arith };
+        whole = λ e. record { loads = refl; verdicts = refl; correctable = (refl, (refl, tt)); filled = refl; programs = refl; plain = refl; least = omega arith; most = omega arith };
       };
       looked-again = record {
         loads = record { rest = []; whole = refl };
         reads = refl;
         in_order = refl;
-        whole = λ e. record { loads = refl; verdicts = refl; correctable = (refl, (refl, tt)); filled = refl; least = omega arith; most = omega arith };
+        whole = λ e. record { loads = refl; verdicts = refl; correctable = (refl, (refl, tt)); filled = refl; programs = refl; plain = refl; least = omega arith; most = omega arith };
       };
       looked-before = record {
         loads = record { rest = []; whole = refl };
         reads = refl;
         in_order = refl;
-        whole = λ e. record { loads = refl; verdicts = refl; correctable = (refl, (refl, tt)); filled = refl; least = omega arith; most = omega arith };
+        whole = λ e. record { loads = refl; verdicts = refl; correctable = (refl, (refl, tt)); filled = refl; programs = refl; plain = refl; least = omega arith; most = omega arith };
       };
       wait-is-no-verdict = record {
         loads = record { rest = []; whole = refl };
         reads = refl;
         in_order = refl;
-        whole = λ e. record { loads = refl; verdicts = refl; correctable = (refl, (refl, tt)); filled = refl; least = omega arith; most = omega arith };
+        whole = λ e. record { loads = refl; verdicts = refl; correctable = (refl, (refl, tt)); filled = refl; programs = refl; plain = refl; least = omega arith; most = omega arith };
       };
       second-data = record {
         loads = record { rest = []; whole = refl };
         reads = refl;
         in_order = refl;
-        whole = λ e. record { loads = refl; verdicts = refl; correctable = (refl, (refl, tt)); filled = refl; least = omega arith; most = omega arith };
+        whole = λ e. record { loads = refl; verdicts = refl; correctable = (refl, (refl, tt)); filled = refl; programs = refl; plain = refl; least = omega arith; most = omega arith };
       };
       unselected-data = record {
         loads = record { rest = []; whole = refl };
         reads = refl;
         in_order = refl;
-        whole = λ e. record { loads = refl; verdicts = refl; correctable = (refl, (refl, tt)); filled = refl; least = omega arith; most = omega arith };
+        whole = λ e. record { loads = refl; verdicts = refl; correctable = (refl, (refl, tt)); filled = refl; programs = refl; plain = refl; least = omega arith; most = omega arith };
       };
     }
 
@@ -134,6 +134,8 @@ ruled = record {
   two-dummies = λ h. true≢false (ap (λ n. eqb n 1) (h.whole tt).filled);
   read-behind = λ h. true≢false (ap (λ xs. eqb (length xs) 1) h.reads);
   rewritten-column = λ h. true≢false (ap (λ xs. eqb (length xs) 1) h.reads);
+  programmed-too = λ h. true≢false (sym (ap (λ xs. eqb (length xs) 0) (h.whole tt).programs));
+  erased-too = λ h. true≢false (sym (h.whole tt).plain);
   low-again = λ h. true≢false (ap (λ xs. eqb (length xs) 1) h.reads);
   quad-behind = λ h. true≢false (ap (λ xs. eqb (length xs) 1) h.reads);
   unselected-quad = λ h. true≢false (ap (λ xs. eqb (length xs) 1) h.reads);

@@ -35,12 +35,15 @@ module _ {C A : Type 0} (xs : List (Entry C A)) where
   abbrev pub read_so_far : List ℕ
   read_so_far = bytes_read reads_cache false xs
 
-  -- what a good end asks for: each page was loaded and judged good enough, the buffer is full, and each wait took its delays
+  -- what a good end asks for: each page was loaded and judged good enough, the buffer is full, nothing was programmed or erased, and each wait took
+  -- its delays
   pub record ReadsAll (g : NandGeometry) (offset len : ℕ) : Type 0 where
     pub loads : sight_of.loads ≡ touched g offset len
     pub verdicts : length sight_of.verdicts ≡ pages_touched g offset len
     pub correctable : NoneUncorrectable sight_of.verdicts
     pub filled : length read_so_far ≡ len
+    pub programs : sight_of.programs ≡ []
+    pub plain : sight_of.plain ≡ true
     pub least : 10 * pages_touched g offset len ≤ delay_asked xs
     pub most : delay_asked xs ≤ 400000 * pages_touched g offset len
 

@@ -293,6 +293,13 @@ unselected_quad = copied_by (got_by_quad (QUAD-READ-CACHE ∷ 7 ∷ 255 ∷ []) 
 abbrev pub long_quad : List Seen
 long_quad = copied_by (in_frame (got_by_quad (QUAD-READ-CACHE ∷ 7 ∷ 255 ∷ 0 ∷ []) ∷ []))
 
+-- a page programmed, or a block erased, behind all that was asked for
+abbrev pub programmed_too : List Seen
+programmed_too = claimed (page_0 ++ page_1 ++ programmed)
+
+abbrev pub erased_too : List Seen
+erased_too = claimed (page_0 ++ page_1 ++ command (BLOCK-ERASE ∷ 0 ∷ 0 ∷ 0 ∷ []))
+
 -- the next page loaded between the asking for a byte and its coming, by a call begun meanwhile
 abbrev pub overtaken : List Seen
 overtaken =
@@ -402,6 +409,8 @@ pub record ShamRuns : Type 0 where
   pub two-dummies : Ruled two_dummies
   pub read-behind : Ruled read_behind
   pub rewritten-column : Ruled rewritten_column
+  pub programmed-too : Ruled programmed_too
+  pub erased-too : Ruled erased_too
   pub low-again : Ruled low_again
   pub quad-behind : Ruled quad_behind
   pub unselected-quad : Ruled unselected_quad
