@@ -3,10 +3,14 @@
 use Rattle.std.specs.Prelude.{ℕ, ◌≤◌, true, false, ◌≡◌, List, [], ◌∷◌, map}
 use Rattle.std.proofs.Math.Option.{none}
 use Rattle.spi_flash.specs.Loan.{Lent}
-use Rattle.spi_flash.specs.Run.{Event}
+use Rattle.spi_flash.specs.Run.{Event, HasEnded}
 use Rattle.spi_flash.specs.Seen.{gives_of}
 use Rattle.flash_runs.specs.Driver.{Sort, constructs, tells, releases, uses, Driver, sort_at, takes_at, steps_at}
 use Rattle.flash_runs.specs.SameAsRust.{Turn, LendsData, Ready, Steady, turn_after, EachTurn, turn_by_turn, Alone, turn_does, turn_gives, heeding_turn, rust_session}
+
+abbrev pub UsesBus : {S : Type 0} → Sort S → Type 0
+UsesBus (uses takes) = Unit {0}
+UsesBus _ = ⊥
 
 module _ {F C S A : Type 0} (driver : Driver F C S A) where
   -- the state behind calls and their events
@@ -30,6 +34,15 @@ module _ {F C S A : Type 0} (driver : Driver F C S A) where
 
   abbrev pub AllAdmissible : List (Turn C) → Type 0
   AllAdmissible turns = EachTurn driver (λ flash x. Admissible flash x.call x.lent x.events) driver.fresh turns
+
+  -- such a session, so that what is said of them is said of something: the first call is a construction, for nothing else is admissible there,
+  -- and the second uses the bus and ends
+  pub record UsedOnceBuilt : Type 0 where
+    pub make : Turn C
+    pub later : Turn C
+    pub admissible : AllAdmissible (make ∷ later ∷ [])
+    pub on_bus : UsesBus (sort_at driver later.call later.lent)
+    pub ends : HasEnded (steps_at driver (turn_after driver driver.fresh make) later.call later.lent later.events)
 
   -- of a driver whose page is at most so long once it is built
   pub record BuiltInside (page_of : S → ℕ) (most : ℕ) : Type 0 where

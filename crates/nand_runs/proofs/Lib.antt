@@ -15,6 +15,7 @@ pub mod Lent
 pub mod Stamps
 pub mod Known
 pub mod Built
+pub mod UsedOnceBuilt
 pub mod AsRust
 pub mod Waits
 pub mod ReadLoop

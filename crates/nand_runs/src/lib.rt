@@ -20,6 +20,7 @@ pub fn nand_promises()
 /// A NAND driver that is built is inside the bounds and has a page of at most 4,096, whatever was asked of it before; so from a driver
 /// before any construction on, the calls give what the Rust's give, but for the listed difference, where constructions alone are given a
 /// geometry inside the bounds, and deliver the same bytes where nobody else writes into the buffer.
+/// There is such a session: a construction, then a use of what it built.
 pub fn nand_keeps_to_the_bounds()
     ensures { NandBuiltInside }
 {}

@@ -18,6 +18,7 @@ pub mod Openings
 pub mod Is
 pub mod Promises
 pub mod Built
+pub mod UsedOnceBuilt
 pub mod LentShams
 pub mod Shams
 pub mod SeenTransfers
