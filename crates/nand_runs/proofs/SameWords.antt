@@ -1,12 +1,13 @@
 -- The driver's words come to the Rust's.
 -- Assumes nothing.
-use Prim.Native.Nat.{◌+◌, ◌*◌, ◌/◌, ◌%◌}
+use Prim.Native.Nat.{ℕ, ◌+◌, ◌*◌, ◌/◌, ◌%◌}
 use native.Mathlib.Omega.{arith}
 use mathlib.Core.Bool.{true}
 use mathlib.Core.List.{[], ◌∷◌}
 use mathlib.Core.Path.{◌≡◌, refl, sym}
 use Rattle.std.specs.Prelude.{Option, Some, None}
 use Rattle.qspi.specs.Bytes.{number_of}
+use Rattle.spi_nand.specs.Command.{column_address}
 use Rattle.spi_nand.specs.Config.{in_bounds, jedec_id_of}
 use Rattle.spi_nand.specs.Status.{same_configuration}
 use Rattle.spi_nand.specs.Transfer.{chunk_of, filler_of, cache_read_transfer, cache_load_transfer}
@@ -41,6 +42,12 @@ held : (geometry : Option NandGeometry) (id : NandJedecId) → geometry_at geome
 held None id = sym (known-same id)
 held (Some own) id = refl
 
+high-byte : (column : ℕ) → column_address column / 256 % 256 ≡ column / 256 % 256
+high-byte column = omega arith
+
+low-byte : (column : ℕ) → column_address column % 256 ≡ column % 256
+low-byte column = omega arith
+
 pub same-words : SameWords
 unfolding same_configuration cache_read_transfer cache_load_transfer jedec_id_of geometry_for from_jedec looked_up
 same-words = record {
@@ -53,6 +60,8 @@ same-words = record {
   loads = λ config column payload. sym (load-same config.quad column payload);
   busy = λ b small. let e : b % 256 ≡ b = omega arith in rw e refl;
   compared = λ a b. refl;
+  quad_reads = λ q column. rw (high-byte column, low-byte column) refl;
+  quad_loads = λ q column. rw (high-byte column, low-byte column) refl;
   bytes = λ a b c x y z.
       let n = number_of (a ∷ b ∷ c ∷ []) in
       let e : n ≡ a * 65536 + b * 256 + c = omega arith in

@@ -2,6 +2,7 @@
 -- bounds (docs/SPECIFICATION.md, "Geometry") the driver's come to the Rust's.
 use Rattle.std.specs.Prelude.{ℕ, ◌+◌, ◌-◌, ◌*◌, ◌/◌, ◌%◌, ◌≤◌, ◌<◌, ◌≡◌, min, true, eqb, [], ◌∷◌}
 use Rattle.qspi.specs.Bytes.{number_of}
+use Rattle.qspi.specs.Command.{command_bytes}
 use Rattle.qspi.specs.Transfer.{command_only}
 use Rattle.qspi.specs.declared.command.Command.{Command}
 use Rattle.qspi.specs.declared.transfer.Body.{Body}
@@ -9,7 +10,7 @@ use Rattle.qspi.specs.declared.transfer.Payload.{Payload}
 use Rattle.qspi.specs.declared.transfer.Sink.{Sink}
 use Rattle.qspi.specs.declared.transfer.Transfer.{Transfer}
 use Rattle.spi_flash.specs.Number.{number_transfer}
-use Rattle.spi_nand.specs.Command.{read_id_command, get_feature_command}
+use Rattle.spi_nand.specs.Command.{read_id_command, get_feature_command, quad_read_cache_command, quad_load_program_data_command}
 use Rattle.spi_nand.specs.Config as Config
 use Rattle.spi_nand.specs.Config.{in_bounds, jedec_id_of, block_size_of, page_count_of, capacity_of, cache_size_of, first_page_of, QUAD-W25N01GV, single_config, quad_config}
 use Rattle.spi_nand.specs.Datasheet as sheet
@@ -59,6 +60,9 @@ pub record SameWords : Type 0 where
   pub busy : (b : ℕ) → b < 256 → busy_value b ≡ busy_of (status_of b)
   -- fn ensure_configuration: registers are compared by their whole bytes
   pub compared : (a b : ℕ) → same_configuration (configuration_of a) (configuration_of b) ≡ eqb a b
+  -- fn read_cache, fn load_program_data: with any quad config, its own opcodes and the column in two bytes
+  pub quad_reads : (q : NandQuadConfig) (column : ℕ) → command_bytes (quad_read_cache_command q column) ≡ q.read_cache_opcode ∷ column / 256 % 256 ∷ column % 256 ∷ []
+  pub quad_loads : (q : NandQuadConfig) (column : ℕ) → command_bytes (quad_load_program_data_command q column) ≡ q.load_program_opcode ∷ column / 256 % 256 ∷ column % 256 ∷ []
   -- NandJedecId::from_bytes
   pub bytes : (a b c : ℕ) → a < 256 → b < 256 → c < 256 → id-of (number_of (a ∷ b ∷ c ∷ [])) ≡ jedec_id_of (a ∷ b ∷ c ∷ [])
   pub ids : (v : ℕ) → id_of v ≡ id-of v

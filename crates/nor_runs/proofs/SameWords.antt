@@ -14,6 +14,9 @@ pub same-words : SameWords
 unfolding chunk_of page_of read_transfer program_transfer from_jedec looked_up
 same-words = record {
   commands = λ command. refl;
+  quad_reads = λ q offset. refl;
+  quad_programs = λ q offset. refl;
+  register_byte = λ b small. omega arith;
   numbers = λ command n. refl;
   ranges = λ capacity offset n. sym (range-same capacity offset n);
   multiples = λ n unit. sym (multiple-same n unit);

@@ -1,7 +1,7 @@
 -- The driver and the transcription of the Rust name the same sums, pieces, tests and transfers twice, each in its own words. Inside the
 -- bounds (docs/SPECIFICATION.md, "Geometry") the driver's come to the Rust's.
 use Rattle.std.specs.Prelude.{ℕ, ◌+◌, ◌-◌, ◌*◌, ◌≤◌, ◌<◌, ◌≡◌, min, true, [], ◌∷◌}
-use Rattle.qspi.specs.Bytes.{number_of}
+use Rattle.qspi.specs.Bytes.{byte_of, number_of}
 use Rattle.qspi.specs.Transfer.{command_only}
 use Rattle.qspi.specs.declared.command.Command.{Command}
 use Rattle.qspi.specs.declared.transfer.Body.{Body}
@@ -9,7 +9,7 @@ use Rattle.qspi.specs.declared.transfer.Sink.{Sink}
 use Rattle.qspi.specs.declared.transfer.Transfer.{Transfer}
 use Rattle.spi_flash.specs.Number.{number_transfer}
 use Rattle.spi_flash.specs.Range as Range
-use Rattle.spi_nor.specs.Command.{sector_erase_command, block_erase_command}
+use Rattle.spi_nor.specs.Command.{quad_read_command, quad_page_program_command, sector_erase_command, block_erase_command}
 use Rattle.spi_nor.specs.Config as Config
 use Rattle.spi_nor.specs.Config.{in_bounds_of, w25q64jv, w25q128jv, quad_w25q128jv, single_config, quad_config}
 use Rattle.spi_nor.specs.Datasheet as sheet
@@ -52,6 +52,11 @@ pub record SameWords : Type 0 where
   pub block_command : (offset : ℕ) → erase_transfer EraseKind.Block offset ≡ command_only (block_erase_command offset)
   pub sector_wait : erase_operation EraseKind.Sector ≡ Operation.SectorErase
   pub block_wait : erase_operation EraseKind.Block ≡ Operation.BlockErase
+  -- fn read, fn page_program: with any quad config, its own opcodes
+  pub quad_reads : (q : NorQuadConfig) (offset : ℕ) → quad_read_command q offset ≡ Command.Address q.read_opcode offset
+  pub quad_programs : (q : NorQuadConfig) (offset : ℕ) → quad_page_program_command q offset ≡ Command.Address q.page_program_opcode offset
+  -- fn read_status1, fn read_status2: buffer[0]
+  pub register_byte : (b : ℕ) → b < 256 → byte_of b ≡ b
   -- fn jedec_id: buffer[0], buffer[1], buffer[2]
   pub bytes : (a b c : ℕ) → a < 256 → b < 256 → c < 256 → id-of (number_of (a ∷ b ∷ c ∷ [])) ≡ record { manufacturer = a; memory_type = b; capacity = c }
   pub ids : (v : ℕ) → id_of v ≡ id-of v
