@@ -18,7 +18,7 @@ trait Side: Flash {
     const NUMBERS: &'static [&'static str];
     /// So many cases hold a whole sweep, and every wait up to its limit.
     const WHOLE: usize;
-    /// The specification's bills, of calls that always have the same.
+    /// The specification's delay bounds, of calls that always have the same.
     const BILLS: &'static [(&'static str, u64)];
 
     fn trace(case: &str) -> String;

@@ -1,5 +1,6 @@
 -- Sham runs and sham drivers of a NAND read (docs/SPECIFICATION.md, "Shams" and "Reads on the bus"), each of 2 bytes at 2,047 of a
--- W25N01GV: the last byte of page 0 and the first of page 1. `ReadSeen` allows the run of a true driver, and none of the shams. Each
+-- W25N01GV: the last byte of page 0 and the first of page 1; and sham drivers of a page write. `ReadSeen` allows the run of a true
+-- driver, and none of the sham runs. Each
 -- lawful run beside a sham differs from it in one thing, so that every part of the observer is needed to tell them apart.
 use Rattle.std.specs.Prelude.{ℕ, Bool, true, false, ◌≡◌, ◌==◌, if◌then◌else◌, List, [], ◌∷◌, ◌++◌}
 use Rattle.qspi.specs.Shown.{Shown, low, high, write, read, quad_read, quad_write, delay}

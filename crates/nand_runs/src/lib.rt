@@ -34,12 +34,14 @@ pub fn nand_delivers_the_chip()
 
 /// No sham driver keeps the promises: one that refuses every request, claims success with no traffic, loads the first page and claims the
 /// rest, runs for ever, gives up before it looks, gives the same result whatever was read, has a bound that is no sum of its delays, spoils
-/// lent bytes, leaves select low, or says other codes of errors and refusals.
+/// lent bytes, leaves select low, forgets what it holds with a refusal, or says other codes of errors and refusals.
 pub fn nand_shams_fail()
     ensures { NandShamsFail }
 {}
 
-/// What is asked of a read's run tells lawful runs from sham ones, and no driver that gives out the actions of a sham run keeps it.
+/// What is asked of a read's run tells lawful runs from sham ones, and no driver that gives out the actions of a sham run keeps it. Nor
+/// does one deliver the chip that skips a load, leaves the buffer as it was, or programs, erases or reads back otherwise than a page write
+/// does.
 pub fn nand_shams_ruled_out()
     ensures { ShamsRuledOut }
 {}

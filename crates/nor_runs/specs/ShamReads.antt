@@ -30,7 +30,7 @@ misled given = given
 abbrev pub misreading : Driver SpiNorFlash Call Setup Answer
 misreading = altered nor_driver (λ m. record { given = misled m.given; flash = m.flash; left = m.left })
 
--- ---- the caller's buffer left as it was, full of zeros
+-- ---- the caller's buffer left full of zeros
 
 abbrev pub zeros : Lent → Lent
 zeros l = record l { buffer = replicate (length l.buffer) 0 }

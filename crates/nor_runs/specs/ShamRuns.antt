@@ -1,5 +1,5 @@
 -- Runs of a NOR's read and write that sham drivers would show, beside lawful ones (docs/SPECIFICATION.md, "Shams" and "Reads on the bus"):
--- each of 2 bytes at place 5. The observer allows the lawful runs and none of the shams, for one thing that each does otherwise.
+-- each at place 5, of 2 bytes but for one long piece. The observer allows the lawful runs and none of the shams, for one thing that each does otherwise.
 use Rattle.std.specs.Prelude.{ℕ, ◌<◌, ◌≡◌, ◌==◌, if◌then◌else◌, List, [], ◌∷◌, ◌++◌, length, Option, Some, None}
 use Rattle.qspi.specs.Shown.{Shown, low, high, write, read, quad_read, quad_write, delay}
 use Rattle.qspi.specs.declared.bus.Reply.{Reply}

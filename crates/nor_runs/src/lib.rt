@@ -25,9 +25,9 @@ pub fn nor_keeps_to_the_bounds()
     ensures { NorBuiltInside }
 {}
 
-/// No sham driver keeps them: one that refuses every request, claims success with no traffic, runs for ever, gives up before it looks,
-/// gives the same result whatever was read, has a bound that is no sum of its delays, spoils lent bytes, leaves select low, or says other
-/// codes of errors and refusals.
+/// No sham driver keeps the promises: one that refuses every request, claims success with no traffic, runs for ever, gives up before it looks,
+/// gives the same result whatever was read, has a bound that is no sum of its delays, spoils lent bytes, leaves select low, forgets
+/// what it holds with a refusal, or says other codes of errors and refusals.
 pub fn nor_shams_fail()
     ensures { NorShamsFail }
 {}

@@ -14,17 +14,17 @@ pub mod frame;
 pub mod loan;
 pub mod transfer;
 
-/// An address is sent whole: its bytes, highest first, are as many as the command has and give the address back.
+/// An address that its bytes can hold is sent whole: its bytes, highest first, are as many as the command has and give the address back.
 pub fn address_bytes()
     ensures { AddressBytes }
 {}
 
-/// The number of a reply is the number that its bytes are, highest first, and each number of so many bytes is one.
+/// The number of a reply of up to eight bytes is the number that its bytes are, highest first, and each number of so many bytes is one.
 pub fn reply_numbers()
     ensures { Numbers }
 {}
 
-/// What an action shows on the bus are the transfer's own bytes, whatever the scratch held before.
+/// What an action shows on the bus are the transfer's own bytes, whatever a scratch that is long enough held before.
 pub fn shown_bytes()
     ensures { ShownBytes }
 {}

@@ -27,7 +27,8 @@ pub fn geometries_hold()
     ensures { GeometriesHold }
 {}
 
-/// Commands, registers, geometries and limits are those of the datasheets, for every page, column and byte.
+/// Commands, registers and geometries are those of the datasheets, for every page, column and byte, and no wait gives up before the parts'
+/// longest time.
 pub fn datasheet_agrees()
     ensures { DatasheetAgrees }
 {}

@@ -1,4 +1,4 @@
--- The driver's commands, bits, ids, sizes and limits are the datasheets'; and where they are not.
+-- The driver's commands, bits, ids and sizes are the datasheets', and its limits no shorter than their longest times; and where they are not.
 use Rattle.std.specs.Prelude.{ℕ, ◌≤◌, ◌<◌, ◌≡◌, true, false, ◌==◌, if◌then◌else◌, [], ◌∷◌}
 use Rattle.qspi.specs.Address.{SentWhole}
 use Rattle.qspi.specs.Command.{command_bytes}

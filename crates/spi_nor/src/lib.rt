@@ -33,7 +33,7 @@ pub fn device_bounds()
     ensures { DeviceBounds }
 {}
 
-/// Commands, addresses, status bits, ids, sizes and limits are those of the datasheets.
+/// Commands, addresses, status bits, ids and sizes are those of the datasheets, and no wait gives up before the parts' longest time.
 pub fn datasheet_agrees()
     ensures { DatasheetAgrees }
 {}

@@ -9,7 +9,8 @@ pub mod reader;
 pub mod record;
 pub mod replay;
 
-/// A tape is accepted just where it is made of a pointer, records and a trailer.
+/// A tape is accepted just where it is well formed: bytes that nobody reads, records, and a trailer that says where the first of them
+/// stands.
 pub fn tape_judged()
     ensures { TapeJudged }
 {}
