@@ -5,7 +5,7 @@ ghost use Rattle.case_text.specs.Word.{before_of, word_of, words_of, last_of};
 ghost use Rattle.case_text.specs.Number.{number_in, number_of, is_hex_of, digit_or_zero, byte_of, bytes_of, pairs_over};
 
 // Words are parted by single blanks.
-const BLANK: u8 = b' ';
+pub const BLANK: u8 = b' ';
 
 const DECIMAL: u32 = 10;
 

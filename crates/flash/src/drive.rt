@@ -1,11 +1,12 @@
 // Calls and replies handed to whichever driver it is.
 ghost use Rattle.std.specs.Prelude.{◌≡◌};
 ghost use Rattle.qspi.specs.Loan.{SameLoan, lending, returning};
-ghost use Rattle.flash.specs.Drive.{not_built, refused_of, fresh_of, count_of, stepped_by, begin_of, stepped_to, step_of};
+ghost use Rattle.flash.specs.Drive.{not_built, refused_of, fresh_of, count_of, given_by, stepped_by, begin_of, stepped_to, step_of};
 
 use crate::side::Side;
 use crate::state::{Flash, Stepped};
 use flash_calls::call::{Call, Kind};
+use flash_calls::given::Answer;
 use machine::part::SteppedOf;
 use machine::state::Given;
 use machine::{call, step};
@@ -52,18 +53,25 @@ pub fn fresh(kind: Kind) -> Stepped
     refused(not_built(kind), FlashError::OutOfTurn)
 }
 
+// What the one or the other answers. A function of its own, whose arms return, as in `machine::step`.
+fn given<D: Side>(given: Given<D::Answer>) -> Given<Answer>
+    ensures { result ≡ given_by D.flash_as D.answer_as given }
+{
+    match given {
+        Given::Act(action) => return Given::Act(action),
+        Given::Ended(answer) => return Given::Ended(D::answer(answer)),
+        Given::Failed(error) => return Given::Failed(error),
+        Given::Refused(error) => return Given::Refused(error),
+    }
+}
+
 // What the one or the other has given.
 fn stepped<D: Side>(stepped: SteppedOf<D>) -> Stepped
     ensures { result ≡ stepped_by D.flash_as D.answer_as stepped }
 {
     Stepped {
         flash: D::flash(stepped.flash),
-        given: match stepped.given {
-            Given::Act(action) => Given::Act(action),
-            Given::Ended(answer) => Given::Ended(D::answer(answer)),
-            Given::Failed(error) => Given::Failed(error),
-            Given::Refused(error) => Given::Refused(error),
-        },
+        given: given::<D>(stepped.given),
         delivered: stepped.flash.delivered,
     }
 }
@@ -89,7 +97,7 @@ pub fn step(flash: Flash, reply: Reply, bytes: &[u8], lent: &mut Loan) -> Steppe
     ensures stepped { returning (stepped_to result) lent.new ≡ lending (step_of flash reply bytes.now) lent.old }
 {
     match flash {
-        Flash::Nor(nor) => stepped::<Nor>(step::step::<Nor>(nor, reply, bytes, lent)),
-        Flash::Nand(nand) => stepped::<Nand>(step::step::<Nand>(nand, reply, bytes, lent)),
+        Flash::Nor(nor) => return stepped::<Nor>(step::step::<Nor>(nor, reply, bytes, lent)),
+        Flash::Nand(nand) => return stepped::<Nand>(step::step::<Nand>(nand, reply, bytes, lent)),
     }
 }

@@ -1,6 +1,7 @@
 -- What is put into the scratch, over every run of the machine: the bytes that a step gives out, at their places, and behind commands what
 -- the program has to give out.
 use Rattle.std.specs.Prelude.{Ok, Err}
+use native.Mathlib.Omega.{arith}
 use Prim.Native.Nat.{ℕ, ◌≤◌}
 use mathlib.Core.Bool.{true}
 use mathlib.Core.Path.{◌≡◌, refl, sym, subst}
@@ -33,7 +34,7 @@ use Rattle.spi_flash.specs.Prog.{Prog, ask}
 use Rattle.spi_flash.proofs.OnBus.{false≢true}
 use Rattle.spi_flash.proofs.Performs.{first-shown, long-scratch}
 use Rattle.flash_runs.specs.Watch.{BusFrame, selected, commanded, wrote_in, frame_after}
-use Rattle.flash_runs.specs.Scratch.{with_command, filler, marker, Payloads, callers, stamps, next_payloads, PutsPayload, Puts, frame_then, payloads_after, payloads_then, StepPuts, PutsOver}
+use Rattle.flash_runs.specs.Scratch.{with_command, filler, marker, Payloads, callers, stamps, next_payloads, PutsPayload, IsShort, Puts, frame_then, payloads_after, payloads_then, StepPuts, PutsOver}
 use Rattle.flash_runs.proofs.Payloads.{PaysBy, Pays}
 
 -- ---- one action
@@ -44,6 +45,18 @@ Long scratch = scratch_least ≤ length scratch
 puts-command : (c : Declared.Command) (s : List ℕ) → Long s → Command.with_command c s ≡ with_command (command_bytes c) s
 unfolding Command.with_command
 puts-command c s h = rw (le-leb scratch_least (length s) h)
+
+has-opcode : (c : Declared.Command) → 1 ≤ length (command_bytes c)
+has-opcode (Declared.Command.Opcode opcode) = omega arith
+has-opcode (Declared.Command.Byte opcode byte) = omega arith
+has-opcode (Declared.Command.RegisterValue opcode register value) = omega arith
+has-opcode (Declared.Command.Address opcode address) = omega arith
+has-opcode (Declared.Command.Column opcode column) = omega arith
+has-opcode (Declared.Command.ColumnDummy opcode column) = omega arith
+has-opcode (Declared.Command.FourDummies opcode) = omega arith
+
+short : (c : Declared.Command) → IsShort (command_bytes c)
+short c = (has-opcode c, longest c)
 
 module _ (all : Payloads) {A : Type 0} (k : ℕ → Prog A) where
   -- what is left to give out behind a transfer
@@ -133,13 +146,13 @@ module _ (all : Payloads) {A : Type 0} (k : ℕ → Prog A) where
     after-start : (t : Transfer) (o : Outcome) → FramedAt Stage.Start t frame → Pays all p (ask t k) → PutsBy (moved_on t (next_stage t Stage.Start) o)
     after-start Transfer.Raise o f h = pays-on p o h
     after-start (Transfer.Pause us) o f h = pays-on p o h
-    after-start (Transfer.Framed c Body.None) o f h = rw f ((longest c, puts-command c s long), record { framed = command-written c; pays = h })
-    after-start (Transfer.Framed c (Body.Read n sink)) o f h = rw f ((longest c, puts-command c s long), record { framed = command-written c; pays = h })
-    after-start (Transfer.Framed c (Body.Write payload)) o f h = rw f ((longest c, puts-command c s long), record { framed = command-written c; pays = h })
-    after-start (Transfer.Framed c (Body.QuadRead tclqv margin n sink)) o f h = rw f ((longest c, puts-command c s long), record { framed = tt; pays = h })
+    after-start (Transfer.Framed c Body.None) o f h = rw f ((short c, puts-command c s long), record { framed = command-written c; pays = h })
+    after-start (Transfer.Framed c (Body.Read n sink)) o f h = rw f ((short c, puts-command c s long), record { framed = command-written c; pays = h })
+    after-start (Transfer.Framed c (Body.Write payload)) o f h = rw f ((short c, puts-command c s long), record { framed = command-written c; pays = h })
+    after-start (Transfer.Framed c (Body.QuadRead tclqv margin n sink)) o f h = rw f ((short c, puts-command c s long), record { framed = tt; pays = h })
     after-start (Transfer.Framed c (Body.QuadWrite payload)) o f h =
         let put = pays-payload p payload given (with_command (command_bytes c) s) (rw (length-sets s 0 (command_bytes c)) long) h in
-        rw (f, puts-command c s long) ((longest c, put.0), record { framed = tt; pays = put.1 })
+        rw (f, puts-command c s long) ((short c, put.0), record { framed = tt; pays = put.1 })
 
     after-command : (t : Transfer) (o : Outcome) → FramedAt Stage.Command t frame → Pays all p (ask t k) → PutsBy (moved_on t (next_stage t Stage.Command) o)
     after-command Transfer.Raise o f h = raised Transfer.Raise o (pays-on p o h)

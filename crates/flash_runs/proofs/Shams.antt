@@ -20,7 +20,6 @@ use Rattle.spi_flash.specs.Run.{Event, Moved, System, Answer, Fitting, answering
 use Rattle.spi_flash.specs.Seen.{Did, told_then, told, SameData, Undisturbed}
 use Rattle.spi_flash.specs.declared.loan.Takes.{Takes}
 use Rattle.flash_runs.specs.Driver.{Left, constructs, works_on, Driver, sort_at, takes_at, program_at, bound_at, ends_at, run_at, steps_at, flash_after}
-use Rattle.flash_runs.specs.Promises.{Promises}
 use Rattle.flash_runs.specs.Refusals.{out_then, is_out, out_after, ToldByHistory}
 use Rattle.flash_runs.specs.SameAsRust.{Regular, rust_call, left_by, SameAsRust}
 use Rattle.flash_runs.specs.Shams.{Asks, Subject, in_place, bounding, ending, Refuses, Succeeds, ForTheBus, ShamsFail}
@@ -282,13 +281,13 @@ module _ {F C S A : Type 0} (driver : Driver F C S A) (G : Type 0) (call : C) (l
     behind history left replies ls (Run.failed e) is begun run = absurd begun
     behind history left replies ls (Run.refused e) is begun run = absurd begun
 
-    ends : Promises held → (es : List (Event C)) × AtRest es
+    ends : ToldByHistory held → SameAsRust held → WithinBound held → (es : List (Event C)) × AtRest es
     unfolding run_of
-    ends p =
-        let begun = begins p.history p.same_as_rust in
-        let well = p.within_bound.ends_well sham.fresh call l c.small begun (c.can (sham.setup sham.fresh)) in
+    ends history same kept =
+        let begun = begins history same in
+        let well = kept.ends_well sham.fresh call l c.small begun (c.can (sham.setup sham.fresh)) in
         let ls = again well.replies l in
-        behind p.history well.left well.replies ls m.given refl begun
+        behind history well.left well.replies ls m.given refl begun
         (well.ends ls (again-length well.replies l) (again-lends well.replies (takes_at held call l) l c.ready))
 
   -- ---- bounds
@@ -345,9 +344,9 @@ module _ {F C S A : Type 0} (driver : Driver F C S A) (G : Type 0) (call : C) (l
     refusing = λ sham h history same. refuses-none sham _ (h sham.fresh call l) (begins sham history same);
     claiming = λ sham h history same. claims-none sham _ (h sham.fresh call l) (begins sham history same);
     silent = λ sham flash call l bus quiet same. quiet (has-begun (in_place driver sham) flash call l bus same);
-    running_on = λ sham h p.
-        let r = ends sham p in
-        true≢false (sym (h sham.fresh call l r.0 (begins sham p.history p.same_as_rust)) ∙ r.1);
+    running_on = λ sham h history same bounded.
+        let r = ends sham history same bounded in
+        true≢false (sym (h sham.fresh call l r.0 (begins sham history same)) ∙ r.1);
     other_bounds = λ delays other flash call l bytes ready begun.
         let most = within flash call l (bound_at (bounding driver delays) flash call l) ready (other-comes delays flash call l (other.reached flash call l bytes begun)) (bound_at driver flash call l) (kept.bounded flash call l) in
         let least = within flash call l (bound_at driver flash call l) ready (kept.reached flash call l bytes begun) (bound_at (bounding driver delays) flash call l) (other.bounded flash call l) in

@@ -56,9 +56,9 @@ PutsPayload (stamps (x ∷ xs)) bytes given before after = PutsStamp x bytes bef
 
 -- ---- one step
 
--- a command has five bytes at most
+-- a command has its opcode, and five bytes at most
 abbrev pub IsShort : List ℕ → Type 0
-IsShort command = length command ≤ 5
+IsShort command = (1 ≤ length command) × (length command ≤ 5)
 
 abbrev pub PutsCommand : (command before after : List ℕ) → Type 0
 PutsCommand command before after = IsShort command × (after ≡ with_command command before)

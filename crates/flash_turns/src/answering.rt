@@ -22,7 +22,7 @@ fn heard(place: Place, hears: Hears) -> Next
     ensures { result ≡ heard_then place hears }
 {
     match hears {
-        Hears::Answer { reply, n, next } => Next {
+        Hears::Answer { reply, n, next } => return Next {
             place: place.gave(next),
             ask: Ask::Answer {
                 reply,
@@ -30,11 +30,11 @@ fn heard(place: Place, hears: Hears) -> Next
                 takes: place.takes,
             },
         },
-        Hears::Stop { error, next } => Next {
+        Hears::Stop { error, next } => return Next {
             place: place.gave(next),
             ask: Ask::Stop(error),
         },
-        Hears::Stay(stays) => Next {
+        Hears::Stay(stays) => return Next {
             place: stays,
             ask: Ask::Nothing,
         },

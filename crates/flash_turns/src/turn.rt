@@ -41,17 +41,17 @@ pub fn turn(
     ensures taken { taken_to result.settings result.place result.ask room.new reply.new (text_in out.new) ≡ turn_of settings place given count text.now scratch.now room.old reply.old (text_in out.old) }
 {
     match place.mode {
-        Mode::Reading => reading::reading(settings, place, text, room, out),
-        Mode::Giving => Turn::shown(
+        Mode::Reading => return reading::reading(settings, place, text, room, out),
+        Mode::Giving => return Turn::shown(
             settings,
             giving::giving(place, given, count, scratch, room, out),
         ),
-        Mode::Awaiting => asking(
+        Mode::Awaiting => return asking(
             settings,
             answering::answering(settings, place, given, text, room.len(), reply),
         ),
-        Mode::Showing(from) => Turn::shown(settings, show::showing(place, from, room, out)),
-        Mode::Bad => Turn::shown(settings, show::bad(place, text, out)),
-        Mode::Over => Turn::shown(settings, place),
+        Mode::Showing(from) => return Turn::shown(settings, show::showing(place, from, room, out)),
+        Mode::Bad => return Turn::shown(settings, show::bad(place, text, out)),
+        Mode::Over => return Turn::shown(settings, place),
     }
 }

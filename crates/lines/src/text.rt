@@ -12,7 +12,8 @@ pub const BLANK: u8 = b' ';
 pub const NEWLINE: u8 = b'\n';
 
 // A slice, and how much of it the text so far takes. No String, as there is no heap, and no ArrayString of the kit, which holds its room:
-// this one is lent.
+// this one is lent. Where bytes are put in a loop, the loop runs over a writer of the function's own, into the same slice: its place lies in
+// a register, where that of a lent writer is read from memory again behind each byte.
 #[derive(Drop)]
 pub struct Writer<'a> {
     pub room: &'a mut [u8],
@@ -52,9 +53,14 @@ impl<'a> Writer<'a> {
     pub fn put_all(&mut self, s: &[u8])
         ensures { Appends s.now self.old self.new }
     {
+        let mut own = Writer {
+            room: &mut *self.room,
+            len: self.len,
+        };
         for b in s {
-            self.put(*b);
+            own.put(*b);
         }
+        self.len = own.len;
     }
 
     // Two hexadecimal digits.
@@ -71,10 +77,15 @@ impl<'a> Writer<'a> {
     pub fn hex(&mut self, s: &[u8])
         ensures { Appends (hex_of s.now) self.old self.new }
     {
+        let mut own = Writer {
+            room: &mut *self.room,
+            len: self.len,
+        };
         for b in s {
-            self.put(BLANK);
-            self.byte(*b);
+            own.put(BLANK);
+            own.byte(*b);
         }
+        self.len = own.len;
     }
 
     // The digits of a number.

@@ -74,8 +74,8 @@ impl<S: Copy, P: Copy> Flash<S, P> {
                     transfer,
                     phase,
                 },
-            ) => self.start(takes, setup, transfer, phase),
-            Ok(Next::End { setup, answer }) => Stepped {
+            ) => return self.start(takes, setup, transfer, phase),
+            Ok(Next::End { setup, answer }) => return Stepped {
                 flash: Flash {
                     setup,
                     built: true,
@@ -84,7 +84,7 @@ impl<S: Copy, P: Copy> Flash<S, P> {
                 },
                 given: Given::Ended(answer),
             },
-            Err(error) => Stepped {
+            Err(error) => return Stepped {
                 flash: Flash {
                     running: None,
                     ..self

@@ -14,7 +14,7 @@ use spi_flash::error::FlashError;
 use spi_flash::loan;
 
 // What does not fit is refused; what fits brings the transfer that is out on, or ends it. The job is the flash's own, where it is known to
-// be there.
+// be there. An arm returns, here and in what docs/DECISIONS.md names: so its value is written where the caller wants it.
 fn exchanged<D: Part>(
     flash: FlashOf<D>,
     job: Job<D::Phase>,
@@ -24,17 +24,17 @@ fn exchanged<D: Part>(
     ensures { result ≡ exchanged shape D.next flash (job_as job) delivered heard }
 {
     match heard {
-        Exchanged::Misfit => flash.refused(FlashError::Misfit),
+        Exchanged::Misfit => return flash.refused(FlashError::Misfit),
         Exchanged::Gave { frame, action } => {
             let running = Some(Job { frame, ..job });
-            Flash {
+            return Flash {
                 delivered,
                 running,
                 ..flash
             }
-            .acting(action)
+            .acting(action);
         }
-        Exchanged::Over(outcome) => flash.settle(
+        Exchanged::Over(outcome) => return flash.settle(
             job.takes,
             D::next(flash.setup, job.phase, outcome),
         ),

@@ -62,15 +62,15 @@ fn enabled(setup: Setup, why: EnableFor) -> Then
     ensures { result ≡ enabled_then setup why }
 {
     match why {
-        EnableFor::Call => go::done(setup),
+        EnableFor::Call => return go::done(setup),
         EnableFor::Register {
             register,
             value,
             why,
-        } => write(setup, register, value, why),
-        EnableFor::WritePage(page) => load_page(setup, page),
-        EnableFor::Erase { block, why } => start_erase(setup, block, why),
-        EnableFor::MarkBad(block) => block::fill(setup, block, 0),
+        } => return write(setup, register, value, why),
+        EnableFor::WritePage(page) => return load_page(setup, page),
+        EnableFor::Erase { block, why } => return start_erase(setup, block, why),
+        EnableFor::MarkBad(block) => return block::fill(setup, block, 0),
     }
 }
 
@@ -103,8 +103,8 @@ fn enabling(setup: Setup, why: EnableFor, at: EnableStep, status: Status) -> The
     ensures { result ≡ enabling_then setup why at status }
 {
     match at {
-        EnableStep::Command => latch(setup, why),
-        EnableStep::Latch => latched(setup, why, status),
+        EnableStep::Command => return latch(setup, why),
+        EnableStep::Latch => return latched(setup, why, status),
     }
 }
 
@@ -127,24 +127,29 @@ fn answered(setup: Setup, asked: Asked, v: u64) -> Then
 {
     let b = bytes::byte(v);
     match asked {
-        Asked::Status => go::end(setup, Answer::Status(Status::from_byte(b))),
+        Asked::Status => return go::end(setup, Answer::Status(Status::from_byte(b))),
         Asked::Configuration => {
-            go::end(setup, Answer::Configuration(Configuration::from_byte(b)))
+            return go::end(setup, Answer::Configuration(Configuration::from_byte(b)));
         }
-        Asked::Protection => { go::end(setup, Answer::Protection(Protection::from_byte(b))) }
-        Asked::Id { bring_up } => identify(setup, register::id_of(v), bring_up),
+        Asked::Protection => return go::end(setup, Answer::Protection(Protection::from_byte(b))),
+        Asked::Id { bring_up } => return identify(setup, register::id_of(v), bring_up),
         Asked::Configure { bring_up } => {
-            register::configure(setup, Configuration::from_byte(b), bring_up)
+            return register::configure(setup, Configuration::from_byte(b), bring_up);
         }
         Asked::Configured { before, bring_up } => {
-            register::check_configuration(setup, before, bring_up, Configuration::from_byte(b))
+            return register::check_configuration(
+                setup,
+                before,
+                bring_up,
+                Configuration::from_byte(b),
+            );
         }
         Asked::Unprotect { bring_up } => {
-            register::unprotect(setup, Protection::from_byte(b), bring_up)
+            return register::unprotect(setup, Protection::from_byte(b), bring_up);
         }
-        Asked::BroughtUp => register::brought_up(setup, Configuration::from_byte(b)),
-        Asked::DisableQuad => register::disable_quad(setup, Configuration::from_byte(b)),
-        Asked::QuadDisabled => register::quad_disabled(setup, Configuration::from_byte(b)),
+        Asked::BroughtUp => return register::brought_up(setup, Configuration::from_byte(b)),
+        Asked::DisableQuad => return register::disable_quad(setup, Configuration::from_byte(b)),
+        Asked::QuadDisabled => return register::quad_disabled(setup, Configuration::from_byte(b)),
     }
 }
 
@@ -163,18 +168,18 @@ fn after(setup: Setup, phase: Phase, v: u64) -> Then
 {
     let b = bytes::byte(v);
     match phase {
-        Phase::Raised => raised(setup),
-        Phase::Asking(asked) => answered(setup, asked, v),
-        Phase::Enabling { why, at } => enabling(setup, why, at, Status::from_byte(b)),
-        Phase::Waiting { task, at } => wait::waiting(setup, task, at, Status::from_byte(b)),
-        Phase::ReadingCache => go::done(setup),
-        Phase::Comparing => cache::compared(setup, v),
-        Phase::ReadingMarker(why) => block::marker(setup, why, b),
-        Phase::Reading(span) => read::piece_read(setup, span),
-        Phase::LoadingData => go::done(setup),
-        Phase::LoadingPage(page) => { page::program(setup, page, ProgramFor::WritePage(page)) }
-        Phase::LoadingFiller { block, column } => block::filled(setup, block, column),
-        Phase::LoadingMarker(block) => block::mark(setup, block),
+        Phase::Raised => return raised(setup),
+        Phase::Asking(asked) => return answered(setup, asked, v),
+        Phase::Enabling { why, at } => return enabling(setup, why, at, Status::from_byte(b)),
+        Phase::Waiting { task, at } => return wait::waiting(setup, task, at, Status::from_byte(b)),
+        Phase::ReadingCache => return go::done(setup),
+        Phase::Comparing => return cache::compared(setup, v),
+        Phase::ReadingMarker(why) => return block::marker(setup, why, b),
+        Phase::Reading(span) => return read::piece_read(setup, span),
+        Phase::LoadingData => return go::done(setup),
+        Phase::LoadingPage(page) => return page::program(setup, page, ProgramFor::WritePage(page)),
+        Phase::LoadingFiller { block, column } => return block::filled(setup, block, column),
+        Phase::LoadingMarker(block) => return block::mark(setup, block),
     }
 }
 

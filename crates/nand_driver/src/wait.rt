@@ -20,8 +20,8 @@ fn reset_done(setup: Setup, why: ResetFor) -> Then
     ensures { result ≡ reset_then setup why }
 {
     match why {
-        ResetFor::Reset => go::done(setup),
-        ResetFor::Identify { bring_up } => go::ask_id(setup, bring_up),
+        ResetFor::Reset => return go::done(setup),
+        ResetFor::Identify { bring_up } => return go::ask_id(setup, bring_up),
     }
 }
 
@@ -31,11 +31,11 @@ fn resume(setup: Setup, task: Task) -> Then
     ensures { result ≡ resume_task setup task }
 {
     match task {
-        Task::Reset(why) => reset_done(setup, why),
-        Task::Register(why) => register::written(setup, why),
-        Task::Load(why) => page::loaded(setup, why),
-        Task::Program(why) => go::verdict(setup, Task::Program(why)),
-        Task::Erase(why) => go::verdict(setup, Task::Erase(why)),
+        Task::Reset(why) => return reset_done(setup, why),
+        Task::Register(why) => return register::written(setup, why),
+        Task::Load(why) => return page::loaded(setup, why),
+        Task::Program(why) => return go::verdict(setup, Task::Program(why)),
+        Task::Erase(why) => return go::verdict(setup, Task::Erase(why)),
     }
 }
 
@@ -45,11 +45,11 @@ fn judged(setup: Setup, task: Task, status: Status) -> Then
     ensures { result ≡ judge_task setup task status }
 {
     match task {
-        Task::Reset(why) => reset_done(setup, why),
-        Task::Register(why) => register::written(setup, why),
-        Task::Load(why) => page::judged(setup, why, status),
-        Task::Program(why) => page::programmed(setup, why, status),
-        Task::Erase(why) => block::erased(setup, why, status),
+        Task::Reset(why) => return reset_done(setup, why),
+        Task::Register(why) => return register::written(setup, why),
+        Task::Load(why) => return page::judged(setup, why, status),
+        Task::Program(why) => return page::programmed(setup, why, status),
+        Task::Erase(why) => return block::erased(setup, why, status),
     }
 }
 
@@ -83,10 +83,10 @@ fn go_on(setup: Setup, task: Task, step: Wait) -> Then
     ensures { result ≡ wait_then setup task step }
 {
     match step {
-        Wait::Look => look(setup, task, 0),
-        Wait::Pause { us, waited } => pause(setup, task, us, waited),
-        Wait::Ready => resume(setup, task),
-        Wait::Timeout => Err(FlashError::Timeout),
+        Wait::Look => return look(setup, task, 0),
+        Wait::Pause { us, waited } => return pause(setup, task, us, waited),
+        Wait::Ready => return resume(setup, task),
+        Wait::Timeout => return Err(FlashError::Timeout),
     }
 }
 
@@ -122,9 +122,9 @@ pub fn waiting(setup: Setup, task: Task, at: WaitStep, status: Status) -> Then
     ensures { result ≡ waiting_then setup task at status }
 {
     match at {
-        WaitStep::Command => sent(setup, task),
-        WaitStep::Look(waited) => looked(setup, task, waited, status),
-        WaitStep::Pause(waited) => look(setup, task, waited),
-        WaitStep::Verdict => judged(setup, task, status),
+        WaitStep::Command => return sent(setup, task),
+        WaitStep::Look(waited) => return looked(setup, task, waited, status),
+        WaitStep::Pause(waited) => return look(setup, task, waited),
+        WaitStep::Verdict => return judged(setup, task, status),
     }
 }

@@ -51,23 +51,23 @@ fn resume(setup: Setup, task: Task) -> Then
     ensures { result ≡ resume_task setup task }
 {
     match task {
-        Task::EnableQuad2(_) => go::read2(setup, Phase::EnableVerify2),
-        Task::EnableQuad1(_) => go::read1(setup, Phase::EnableVerify1),
-        Task::DisableQuad2(_) => go::read2(setup, Phase::DisableVerify2),
-        Task::DisableQuad1(_) => go::read1(setup, Phase::DisableVerify1),
+        Task::EnableQuad2(_) => return go::read2(setup, Phase::EnableVerify2),
+        Task::EnableQuad1(_) => return go::read1(setup, Phase::EnableVerify1),
+        Task::DisableQuad2(_) => return go::read2(setup, Phase::DisableVerify2),
+        Task::DisableQuad1(_) => return go::read1(setup, Phase::DisableVerify1),
         Task::Unprotect1 { before, status2 } => {
-            protection::unprotect_second(setup, before, status2)
+            return protection::unprotect_second(setup, before, status2);
         }
         Task::Unprotect2 { before, status2: _ } => {
-            go::read1(setup, Phase::UnprotectAfter(before))
+            return go::read1(setup, Phase::UnprotectAfter(before));
         }
-        Task::PageProgram(span) => write::verify(setup, span),
+        Task::PageProgram(span) => return write::verify(setup, span),
         Task::Erase { kind, address, end } => {
-            erase::erase_from(
+            return erase::erase_from(
                 setup,
                 transfer::after_unit(setup.device, kind, address),
                 end,
-            )
+            );
         }
     }
 }
@@ -102,10 +102,10 @@ fn waited_then(setup: Setup, task: Task, step: Wait) -> Then
     ensures { result ≡ wait_then setup task step }
 {
     match step {
-        Wait::Look => look(setup, task, 0),
-        Wait::Pause { us, waited } => pause(setup, task, us, waited),
-        Wait::Ready => resume(setup, task),
-        Wait::Timeout => Err(FlashError::Timeout),
+        Wait::Look => return look(setup, task, 0),
+        Wait::Pause { us, waited } => return pause(setup, task, us, waited),
+        Wait::Ready => return resume(setup, task),
+        Wait::Timeout => return Err(FlashError::Timeout),
     }
 }
 
@@ -141,10 +141,10 @@ pub fn writing(setup: Setup, task: Task, at: WriteStep, status1: u8) -> Then
     ensures { result ≡ writing_then setup task at status1 }
 {
     match at {
-        WriteStep::Enable => latch(setup, task),
-        WriteStep::Latch => latched(setup, task, status1),
-        WriteStep::Command => sent(setup, task),
-        WriteStep::Look(waited) => looked(setup, task, waited, status1),
-        WriteStep::Pause(waited) => look(setup, task, waited),
+        WriteStep::Enable => return latch(setup, task),
+        WriteStep::Latch => return latched(setup, task, status1),
+        WriteStep::Command => return sent(setup, task),
+        WriteStep::Look(waited) => return looked(setup, task, waited, status1),
+        WriteStep::Pause(waited) => return look(setup, task, waited),
     }
 }

@@ -1,5 +1,6 @@
 //! The bytes behind actions and replies: parts of what is lent, numbers, comparisons and deliveries.
-ghost use Rattle.std.specs.Prelude.{◌≡◌, ◌+◌, length, take, drop, leb};
+ghost use Rattle.std.specs.Prelude.{◌≡◌, ◌≤◌, ◌+◌, length, take, drop, leb};
+ghost use Rattle.std.proofs.Math.Seq.{paste};
 ghost use Rattle.qspi.specs.Bytes.{part_of, sent_of, number_of, byte_of, begins_of, delivered_of, end_of, filler_length, with_filler, with_marker};
 
 use crate::bus::Part;
@@ -78,12 +79,22 @@ fn has_room(buffer_len: usize, at: usize, len: usize) -> bool
     len <= buffer_len && at <= buffer_len - len
 }
 
+// Puts the bytes at a place where they fit. By index: `copy_from_slice` of std would make the archive for C need `memmove`.
+fn copy(buffer: &mut [u8], at: usize, s: &[u8])
+    requires { at + length s.now ≤ length buffer.old }
+    ensures { buffer.new ≡ paste buffer.old at s.now (length s.now) }
+{
+    for i in 0..s.len() {
+        buffer[at + i] = s[i];
+    }
+}
+
 /// Puts the bytes into the buffer at a place. Where they do not fit, it keeps every byte.
 pub fn deliver(buffer: &mut [u8], at: usize, s: &[u8])
     ensures { buffer.new ≡ delivered_of buffer.old at s.now }
 {
     if has_room(buffer.len(), at, s.len()) {
-        buffer[at..at + s.len()].copy_from_slice(s);
+        copy(buffer, at, s);
     }
 }
 

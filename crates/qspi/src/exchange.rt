@@ -86,12 +86,12 @@ fn moved_on(transfer: Transfer, following: Option<Stage>, outcome: Outcome) -> A
     ensures { result ≡ moved_on transfer following outcome }
 {
     match following {
-        Some(stage) => Advanced::More(Frame {
+        Some(stage) => return Advanced::More(Frame {
             transfer,
             stage,
             outcome,
         }),
-        None => Advanced::Over(outcome),
+        None => return Advanced::Over(outcome),
     }
 }
 
@@ -103,9 +103,9 @@ pub fn advance(frame: Frame, reply: Reply, s: &[u8], data: &[u8]) -> Advanced
     let transfer = frame.transfer;
     let next = next_stage(transfer, frame.stage);
     match reply {
-        Reply::Done => moved_on(transfer, next, frame.outcome),
-        Reply::Data => moved_on(transfer, next, Ok(value_of(sink_of(transfer), s, data))),
-        Reply::Error(code) => moved_on(transfer, Some(Stage::High), Err(BusError(code))),
+        Reply::Done => return moved_on(transfer, next, frame.outcome),
+        Reply::Data => return moved_on(transfer, next, Ok(value_of(sink_of(transfer), s, data))),
+        Reply::Error(code) => return moved_on(transfer, Some(Stage::High), Err(BusError(code))),
     }
 }
 
@@ -130,11 +130,11 @@ pub fn exchange(frame: Frame, reply: Reply, s: &[u8], lent: &mut Loan) -> Exchan
     }
     take_in(frame, reply, s, lent.buffer);
     match advance(frame, reply, s, lent.data) {
-        Advanced::More(frame) => Exchanged::Gave {
+        Advanced::More(frame) => return Exchanged::Gave {
             frame,
             action: frame::give(frame, lent.scratch),
         },
-        Advanced::Over(outcome) => Exchanged::Over(outcome),
+        Advanced::Over(outcome) => return Exchanged::Over(outcome),
     }
 }
 

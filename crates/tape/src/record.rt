@@ -99,8 +99,8 @@ impl Record {
     }
 }
 
-/// The number of an answer: a record's kind, or the refusal's. Like the length below it says a number of None too: what was promised of an
-/// answer without a record stays promised.
+/// The number of an answer: a record's kind, or the refusal's. Like the three below it takes None too: what was promised of an answer
+/// without a record stays promised.
 pub fn number(answer: Option<Record>) -> u8
     ensures { result ≡ number_of_record answer }
 {
@@ -117,5 +117,25 @@ pub fn length(answer: Option<Record>) -> usize
     match answer {
         Some(record) => record.len(),
         None => 0,
+    }
+}
+
+/// The bytes of the answer's data, as that part of the tape itself; none where it has no record.
+pub fn data(tape: &[u8], answer: Option<Record>) -> &[u8]
+    ensures { result.now ≡ data_of tape.now answer }
+{
+    match answer {
+        Some(record) => record.data(tape),
+        None => &tape[..0],
+    }
+}
+
+/// The reply that the answer holds; done where it has no record.
+pub fn reply(answer: Option<Record>) -> Reply
+    ensures { result ≡ reply_of answer }
+{
+    match answer {
+        Some(record) => record.reply(),
+        None => Reply::Done,
     }
 }

@@ -98,9 +98,9 @@ fn answered(
     ensures { stepped_to result scratch.new room.new ≡ answered_over flash reply bytes.now takes scratch.old room.old }
 {
     match takes {
-        Takes::Nothing => with_none(flash, reply, bytes, scratch),
-        Takes::Buffer(n) => with_buffer(flash, reply, bytes, n, scratch, room),
-        Takes::Data(n) => with_data(flash, reply, bytes, n, scratch, room),
+        Takes::Nothing => return with_none(flash, reply, bytes, scratch),
+        Takes::Buffer(n) => return with_buffer(flash, reply, bytes, n, scratch, room),
+        Takes::Data(n) => return with_data(flash, reply, bytes, n, scratch, room),
     }
 }
 
@@ -118,13 +118,13 @@ pub fn asked(
 {
     let flash = stepped.flash;
     match ask {
-        Ask::Nothing => stepped,
-        Ask::Begin(asked) => begin(flash, asked.call, asked.takes, scratch, room),
+        Ask::Nothing => return stepped,
+        Ask::Begin(asked) => return begin(flash, asked.call, asked.takes, scratch, room),
         Ask::Answer {
             reply: by,
             n,
             takes,
-        } => answered(flash, by, bytes::delivered(reply, n), takes, scratch, room),
-        Ask::Stop(error) => drive::refused(flash, error),
+        } => return answered(flash, by, bytes::delivered(reply, n), takes, scratch, room),
+        Ask::Stop(error) => return drive::refused(flash, error),
     }
 }

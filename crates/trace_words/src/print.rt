@@ -66,9 +66,14 @@ pub fn error_values(out: &mut Writer, error: FlashError)
 fn solid(out: &mut Writer, s: &[u8])
     ensures { Appends (solid_of s.now) out.old out.new }
 {
+    let mut own = Writer {
+        room: &mut *out.room,
+        len: out.len,
+    };
     for b in s {
-        out.byte(*b);
+        own.byte(*b);
     }
+    out.len = own.len;
 }
 
 // Before the first piece B, and a blank where a byte follows. It takes the piece's place and the buffer's length: no byte is looked at.
