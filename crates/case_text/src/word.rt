@@ -4,7 +4,7 @@ ghost use Rattle.qspi.specs.Bytes.{delivered_of};
 ghost use Rattle.case_text.specs.Word.{before_of, word_of, words_of, last_of};
 ghost use Rattle.case_text.specs.Number.{number_in, number_of, is_hex_of, digit_or_zero, byte_of, bytes_of, pairs_over};
 
-// Words are parted by single blanks.
+/// What parts two words: a single blank.
 pub const BLANK: u8 = b' ';
 
 const DECIMAL: u32 = 10;

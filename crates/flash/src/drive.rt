@@ -53,11 +53,11 @@ pub fn fresh(kind: Kind) -> Stepped
     refused(not_built(kind), FlashError::OutOfTurn)
 }
 
-// What the one or the other answers. A function of its own, whose arms return, as in `machine::step`.
-fn given<D: Side>(given: Given<D::Answer>) -> Given<Answer>
-    ensures { result ≡ given_by D.flash_as D.answer_as given }
+// What the one or the other answers. A function of its own, so that its arms can return, as those of `machine::step` do.
+fn given<D: Side>(own: Given<D::Answer>) -> Given<Answer>
+    ensures { result ≡ given_by D.flash_as D.answer_as own }
 {
-    match given {
+    match own {
         Given::Act(action) => return Given::Act(action),
         Given::Ended(answer) => return Given::Ended(D::answer(answer)),
         Given::Failed(error) => return Given::Failed(error),

@@ -34,7 +34,7 @@ use Rattle.spi_flash.specs.Prog.{Prog, ask}
 use Rattle.spi_flash.proofs.OnBus.{false≢true}
 use Rattle.spi_flash.proofs.Performs.{first-shown, long-scratch}
 use Rattle.flash_runs.specs.Watch.{BusFrame, selected, commanded, wrote_in, frame_after}
-use Rattle.flash_runs.specs.Scratch.{with_command, filler, marker, Payloads, callers, stamps, next_payloads, PutsPayload, IsShort, Puts, frame_then, payloads_after, payloads_then, StepPuts, PutsOver}
+use Rattle.flash_runs.specs.Scratch.{with_command, filler, marker, Payloads, callers, stamps, next_payloads, PutsPayload, IsCommand, Puts, frame_then, payloads_after, payloads_then, StepPuts, PutsOver}
 use Rattle.flash_runs.proofs.Payloads.{PaysBy, Pays}
 
 -- ---- one action
@@ -55,8 +55,8 @@ has-opcode (Declared.Command.Column opcode column) = omega arith
 has-opcode (Declared.Command.ColumnDummy opcode column) = omega arith
 has-opcode (Declared.Command.FourDummies opcode) = omega arith
 
-short : (c : Declared.Command) → IsShort (command_bytes c)
-short c = (has-opcode c, longest c)
+is-command : (c : Declared.Command) → IsCommand (command_bytes c)
+is-command c = (has-opcode c, longest c)
 
 module _ (all : Payloads) {A : Type 0} (k : ℕ → Prog A) where
   -- what is left to give out behind a transfer
@@ -146,13 +146,13 @@ module _ (all : Payloads) {A : Type 0} (k : ℕ → Prog A) where
     after-start : (t : Transfer) (o : Outcome) → FramedAt Stage.Start t frame → Pays all p (ask t k) → PutsBy (moved_on t (next_stage t Stage.Start) o)
     after-start Transfer.Raise o f h = pays-on p o h
     after-start (Transfer.Pause us) o f h = pays-on p o h
-    after-start (Transfer.Framed c Body.None) o f h = rw f ((short c, puts-command c s long), record { framed = command-written c; pays = h })
-    after-start (Transfer.Framed c (Body.Read n sink)) o f h = rw f ((short c, puts-command c s long), record { framed = command-written c; pays = h })
-    after-start (Transfer.Framed c (Body.Write payload)) o f h = rw f ((short c, puts-command c s long), record { framed = command-written c; pays = h })
-    after-start (Transfer.Framed c (Body.QuadRead tclqv margin n sink)) o f h = rw f ((short c, puts-command c s long), record { framed = tt; pays = h })
+    after-start (Transfer.Framed c Body.None) o f h = rw f ((is-command c, puts-command c s long), record { framed = command-written c; pays = h })
+    after-start (Transfer.Framed c (Body.Read n sink)) o f h = rw f ((is-command c, puts-command c s long), record { framed = command-written c; pays = h })
+    after-start (Transfer.Framed c (Body.Write payload)) o f h = rw f ((is-command c, puts-command c s long), record { framed = command-written c; pays = h })
+    after-start (Transfer.Framed c (Body.QuadRead tclqv margin n sink)) o f h = rw f ((is-command c, puts-command c s long), record { framed = tt; pays = h })
     after-start (Transfer.Framed c (Body.QuadWrite payload)) o f h =
         let put = pays-payload p payload given (with_command (command_bytes c) s) (rw (length-sets s 0 (command_bytes c)) long) h in
-        rw (f, puts-command c s long) ((short c, put.0), record { framed = tt; pays = put.1 })
+        rw (f, puts-command c s long) ((is-command c, put.0), record { framed = tt; pays = put.1 })
 
     after-command : (t : Transfer) (o : Outcome) → FramedAt Stage.Command t frame → Pays all p (ask t k) → PutsBy (moved_on t (next_stage t Stage.Command) o)
     after-command Transfer.Raise o f h = raised Transfer.Raise o (pays-on p o h)

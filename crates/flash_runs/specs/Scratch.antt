@@ -57,11 +57,11 @@ PutsPayload (stamps (x ∷ xs)) bytes given before after = PutsStamp x bytes bef
 -- ---- one step
 
 -- a command has its opcode, and five bytes at most
-abbrev pub IsShort : List ℕ → Type 0
-IsShort command = (1 ≤ length command) × (length command ≤ 5)
+abbrev pub IsCommand : List ℕ → Type 0
+IsCommand command = (1 ≤ length command) × (length command ≤ 5)
 
 abbrev pub PutsCommand : (command before after : List ℕ) → Type 0
-PutsCommand command before after = IsShort command × (after ≡ with_command command before)
+PutsCommand command before after = IsCommand command × (after ≡ with_command command before)
 
 -- the first write since select went low is the command, and at most one more follows; nothing is written while select is high
 abbrev pub PutsWrite : BusFrame → Payloads → (bytes given before after : List ℕ) → Type 0
@@ -86,7 +86,7 @@ Puts high frame payloads given before after = after ≡ before
 Puts (write bytes) frame payloads given before after = PutsWrite frame payloads bytes given before after
 Puts (read n) frame payloads given before after = Behind frame (after ≡ before)
 Puts (quad_read command tclqv margin n) frame payloads given before after = Alone frame (PutsCommand command before after)
-Puts (quad_write command payload) frame payloads given before after = Alone frame (IsShort command × PutsPayload payloads payload given (with_command command before) after)
+Puts (quad_write command payload) frame payloads given before after = Alone frame (IsCommand command × PutsPayload payloads payload given (with_command command before) after)
 Puts (delay us) frame payloads given before after = after ≡ before
 
 -- an end and a refusal put nothing

@@ -112,7 +112,8 @@ pub record ShamsFail {F C S A : Type 0} (driver : Driver F C S A) (G : Type 0) :
   -- nor is there one call that the Rust takes to the bus and the sham does not
   pub silent : (sham : Subject G C S A) (flash : G) (call : C) (l : Lent) → ForTheBus (in_place driver sham) flash call l →
       (Begun (in_place driver sham) flash call l → ⊥) → SameAsRust (in_place driver sham) → ⊥
-  pub running_on : (sham : Subject G C S A) → RunsForEver (in_place driver sham) → ToldByHistory (in_place driver sham) → SameAsRust (in_place driver sham) → WithinBound (in_place driver sham) → ⊥
+  pub running_on : (sham : Subject G C S A) → RunsForEver (in_place driver sham) → ToldByHistory (in_place driver sham) → SameAsRust (in_place driver sham) →
+      WithinBound (in_place driver sham) → ⊥
   -- a bound that is no sum of the delays given out: no other is kept and reached
   pub other_bounds : (bound : S → C → ℕ → ℕ → ℕ) → WithinBound (bounding driver bound) → (flash : F) (call : C) (l : Lent) → AllBytes l.given →
       ready_for (takes_at driver call l) l ≡ true → Begun driver flash call l → bound_at (bounding driver bound) flash call l ≡ bound_at driver flash call l

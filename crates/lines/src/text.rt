@@ -12,8 +12,8 @@ pub const BLANK: u8 = b' ';
 pub const NEWLINE: u8 = b'\n';
 
 // A slice, and how much of it the text so far takes. No String, as there is no heap, and no ArrayString of the kit, which holds its room:
-// this one is lent. Where bytes are put in a loop, the loop runs over a writer of the function's own, into the same slice: its place lies in
-// a register, where that of a lent writer is read from memory again behind each byte.
+// this one is lent. Where bytes are put in a loop, the loop runs over a writer of the function's own, into the same slice: its place lies
+// in a register, where that of a lent writer is read from memory again behind each byte.
 #[derive(Drop)]
 pub struct Writer<'a> {
     pub room: &'a mut [u8],
@@ -53,14 +53,14 @@ impl<'a> Writer<'a> {
     pub fn put_all(&mut self, s: &[u8])
         ensures { Appends s.now self.old self.new }
     {
-        let mut own = Writer {
+        let mut writer = Writer {
             room: &mut *self.room,
             len: self.len,
         };
         for b in s {
-            own.put(*b);
+            writer.put(*b);
         }
-        self.len = own.len;
+        self.len = writer.len;
     }
 
     // Two hexadecimal digits.
@@ -77,15 +77,15 @@ impl<'a> Writer<'a> {
     pub fn hex(&mut self, s: &[u8])
         ensures { Appends (hex_of s.now) self.old self.new }
     {
-        let mut own = Writer {
+        let mut writer = Writer {
             room: &mut *self.room,
             len: self.len,
         };
         for b in s {
-            own.put(BLANK);
-            own.byte(*b);
+            writer.put(BLANK);
+            writer.byte(*b);
         }
-        self.len = own.len;
+        self.len = writer.len;
     }
 
     // The digits of a number.

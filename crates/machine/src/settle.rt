@@ -62,7 +62,9 @@ impl<S: Copy, P: Copy> Flash<S, P> {
         .acting(frame::pending(frame))
     }
 
+    // Inlined: else its result, a few hundred bytes, is cleared and copied once more where a transfer is over.
     /// Goes on with the next transfer, or ends the call. A call that has succeeded leaves the driver built.
+    #[inline(always)]
     #[tactic(auto, unfolding(spi_flash::specs::Settling::settled))]
     pub fn settle<A>(self, takes: Takes, then: Then<S, P, A>) -> Stepped<S, P, A>
         ensures { result ≡ settled shape self takes (then_as «then») }

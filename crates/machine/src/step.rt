@@ -14,7 +14,7 @@ use spi_flash::error::FlashError;
 use spi_flash::loan;
 
 // What does not fit is refused; what fits brings the transfer that is out on, or ends it. The job is the flash's own, where it is known to
-// be there. An arm returns, here and in what docs/DECISIONS.md names: so its value is written where the caller wants it.
+// be there. Each arm returns, so that its value is written where the caller wants it (docs/DECISIONS.md).
 fn exchanged<D: Part>(
     flash: FlashOf<D>,
     job: Job<D::Phase>,

@@ -34,7 +34,8 @@ pub fn nand_delivers_the_chip()
 
 /// No sham driver keeps the promises: one that refuses every request, claims success with no traffic, loads the first page and claims the
 /// rest, runs for ever, gives up before it looks, gives the same result whatever was read, has a bound that is no sum of its delays, spoils
-/// lent bytes, leaves select low, forgets what it holds with a refusal, or says other codes of errors and refusals.
+/// lent bytes, leaves select low, gives out a write of no bytes ahead of a command, forgets what it holds with a refusal, or says other codes
+/// of errors and refusals.
 pub fn nand_shams_fail()
     ensures { NandShamsFail }
 {}

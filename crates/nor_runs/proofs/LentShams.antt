@@ -20,7 +20,7 @@ use Rattle.spi_flash.specs.Seen.{KeepsBuffer, EndsHigh}
 use Rattle.spi_flash.specs.Settling.{settled}
 use Rattle.spi_flash.specs.declared.error.FlashError.{FlashError}
 use Rattle.flash_runs.specs.LentBytes.{LentBytes}
-use Rattle.flash_runs.specs.LentShams.{wiping, scribbling, lowering, renaming, spoiling, forgetting, misnaming, LentShamsFail}
+use Rattle.flash_runs.specs.LentShams.{wiping, scribbling, lowering, renaming, stuttering, spoiling, forgetting, misnaming, LentShamsFail}
 use Rattle.flash_runs.specs.Refusals.{RefusesJust, RefusalsKeep}
 use Rattle.flash_runs.specs.Scratch.{PutsOver}
 use Rattle.flash_runs.specs.Watch.{StopsOnError}
@@ -79,6 +79,12 @@ renames kept =
     let h = kept.stops_on_error built Call.ReadStatus1 (lending []) failing in
     true≢false (ap is_timeout h.1.1.1.0)
 
+stutters : LentBytes (stuttering nor_driver) → ⊥
+unfolding run_of goes_on begins at_rest begun opened settled entry_of steps opening_of in_bounds_of first_of action_of exchange_for exchange_of ready_of fits_of advanced_of taken_in given_scratch with_command delivered_by next_of after_phase PutsOver
+stutters kept =
+    let h = kept.scratch (built, false) Call.ReadStatus1 (lending []) (reading []) in
+    omega (arith, h.1.0.scratch.0.0)
+
 spoils : RefusalsKeep (spoiling nor_driver) → ⊥
 unfolding run_of goes_on begins at_rest begun opened settled entry_of steps opening_of in_bounds_of first_of action_of exchange_for exchange_of ready_of fits_of advanced_of taken_in given_scratch with_command delivered_by next_of after_phase
 spoils kept =
@@ -99,6 +105,7 @@ lent-shams-fail = record {
   scribbling = scribbles;
   lowering = lowers;
   renaming = renames;
+  stuttering = stutters;
   spoiling = spoils;
   forgetting = forgets;
   misnaming = misnames;

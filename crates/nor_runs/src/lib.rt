@@ -26,8 +26,8 @@ pub fn nor_keeps_to_the_bounds()
 {}
 
 /// No sham driver keeps the promises: one that refuses every request, claims success with no traffic, runs for ever, gives up before it looks,
-/// gives the same result whatever was read, has a bound that is no sum of its delays, spoils lent bytes, leaves select low, forgets
-/// what it holds with a refusal, or says other codes of errors and refusals.
+/// gives the same result whatever was read, has a bound that is no sum of its delays, spoils lent bytes, leaves select low, gives out a
+/// write of no bytes ahead of a command, forgets what it holds with a refusal, or says other codes of errors and refusals.
 pub fn nor_shams_fail()
     ensures { NorShamsFail }
 {}

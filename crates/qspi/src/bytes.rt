@@ -79,13 +79,13 @@ fn has_room(buffer_len: usize, at: usize, len: usize) -> bool
     len <= buffer_len && at <= buffer_len - len
 }
 
-// Puts the bytes at a place where they fit. By index: `copy_from_slice` of std would make the archive for C need `memmove`.
+// Puts the bytes at a place where they fit, one by one: std's `copy_from_slice` would make the archive for C need `memmove`.
 fn copy(buffer: &mut [u8], at: usize, s: &[u8])
     requires { at + length s.now ≤ length buffer.old }
     ensures { buffer.new ≡ paste buffer.old at s.now (length s.now) }
 {
-    for i in 0..s.len() {
-        buffer[at + i] = s[i];
+    for (i, b) in s.iter().enumerate() {
+        buffer[at + i] = *b;
     }
 }
 

@@ -145,7 +145,9 @@ fn payload_action(transfer: Transfer) -> Action
     }
 }
 
+// Inlined: else its result is put into memory that is cleared first, twice in most steps.
 /// The action that is out, whose reply is awaited.
+#[inline(always)]
 #[tactic(auto, unfolding(crate::specs::Frame::action_of))]
 pub fn pending(frame: Frame) -> Action
     ensures { result ≡ action_of frame }

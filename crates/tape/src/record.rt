@@ -99,8 +99,7 @@ impl Record {
     }
 }
 
-/// The number of an answer: a record's kind, or the refusal's. Like the three below it takes None too: what was promised of an answer
-/// without a record stays promised.
+/// The number of an answer: a record's kind, or the refusal's. Like the three below it takes what a reader gave, without a record too.
 pub fn number(answer: Option<Record>) -> u8
     ensures { result ≡ number_of_record answer }
 {

@@ -66,14 +66,14 @@ pub fn error_values(out: &mut Writer, error: FlashError)
 fn solid(out: &mut Writer, s: &[u8])
     ensures { Appends (solid_of s.now) out.old out.new }
 {
-    let mut own = Writer {
+    let mut writer = Writer {
         room: &mut *out.room,
         len: out.len,
     };
     for b in s {
-        own.byte(*b);
+        writer.byte(*b);
     }
-    out.len = own.len;
+    out.len = writer.len;
 }
 
 // Before the first piece B, and a blank where a byte follows. It takes the piece's place and the buffer's length: no byte is looked at.

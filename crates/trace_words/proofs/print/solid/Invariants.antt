@@ -4,4 +4,4 @@ use Rattle.trace_words.specs.Print.{solid_of}
 use Rattle.trace_words.proofs.print.solid.Given as goal
 
 abbrev pub invariant-loop-b : goal.invariant-loop-b
-invariant-loop-b l = Appends (solid_of (take l.b-index l.s)) l.initial.own l.own
+invariant-loop-b l = Appends (solid_of (take l.b-index l.s)) l.initial.writer l.writer
